@@ -1,0 +1,6 @@
+pub mod Lines
+pub mod Places
+pub mod Keys
+pub mod Ways
+pub mod Pins
+pub mod Edges

@@ -1,0 +1,1 @@
+// Laws of reading a line from left to right stand in specs/.

@@ -1,0 +1,3 @@
+mod Digits
+mod Prefix
+mod Commas

@@ -1,0 +1,38 @@
+use native.Mathlib.Nat.{add-zero}
+use Rattle.text.proofs.Prefix.{key-more, key-differs, key-short, key-all}
+use mathlib.Core.Path.{_≡_, refl, sym, ap, _∙_}
+use Prim.Native.Nat.{_+_, _-_, _≤_}
+use lib.ListN.{length, drop, length-set}
+use Rattle.text.specs.Entries.{startsWith}
+use borrow.Author.Needs.{needs}
+use native.Mathlib.Omega.{arith}
+use Rattle.text.proofs.key_at.Statement.{statement}
+use Rattle.text.proofs.key_at.Tie as tie
+
+abbrev Inv-loop : tie.InvT-loop
+Inv-loop s at key i₀ i = (i ≤ length key) × (startsWith key (drop at s) ≡ startsWith (drop i key) (drop (at + i) s))
+
+abbrev μ-loop : tie.MeasureT-loop
+μ-loop s at key i₀ i = length key - i
+
+pub key-at-spec : {M : Type 1} → statement M
+key-at-spec =
+    tie.close
+    (tie.spec
+    Inv-loop μ-loop
+    (λ c. (omega arith, rw add-zero))
+    (λ c. search needs)
+    (λ c. let l = c .before .before in
+    let a = l .before .args in
+    sym (l .loop .inv .1 ∙ key-short (a .key .now) (a .s .now) (a .at) (l .loop .i) (omega arith) (omega arith)))
+    (λ c. search needs) (λ c. search needs) (λ c. search needs)
+    (λ c. let l = c .before .before .before .before .before in
+    let a = l .before .args in
+    sym (l .loop .inv .1 ∙ key-differs (a .key .now) (a .s .now) (a .at) (l .loop .i) (omega arith) (omega arith) (c .if2 .taken)))
+    (λ c. search needs) (λ c. search needs)
+    (λ c. let l = c .before .before .before .before .before in
+    let a = l .before .args in
+    (omega arith, l .loop .inv .1 ∙ key-more (a .key .now) (a .s .now) (a .at) (l .loop .i) (omega arith) (omega arith) (c .if2 .left)))
+    (λ c. let l = c .before in
+    let a = l .before .args in
+    sym (l .loop .inv .1 ∙ key-all (a .key .now) (a .s .now) (a .at) (l .loop .i) (omega arith))))

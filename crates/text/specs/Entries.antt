@@ -1,0 +1,47 @@
+-- Keys, and entries of three parts, at a place of the text.
+-- Assumes nothing.
+use mathlib.Core.Bool.{Bool, true, false, _&&_, cond}
+use mathlib.Core.List.{List, [], _∷_}
+use Prim.Native.Nat.{ℕ, _+_}
+use lib.Dec.{eqb}
+use lib.ListN.{getD}
+use Rattle.text.specs.Number.{numberAt}
+use Rattle.text.specs.declared.Entry.{Entry}
+use Rattle.text.specs.declared.Entry.the-variants.{More, Last, Bad}
+use Rattle.text.specs.declared.Numeral.{Numeral}
+use Rattle.text.specs.declared.Numeral.the-variants.{Value, Malformed}
+
+-- the text begins with the key
+unfoldable pub startsWith : List ℕ → List ℕ → Bool
+startsWith [] text = true
+startsWith (k ∷ key) [] = false
+startsWith (k ∷ key) (b ∷ text) = eqb k b && startsWith key text
+
+-- what to do with a number that was read, and with none
+module _ {A : Type 0} where
+  abbrev pub onNumber : Numeral → (ℕ → ℕ → A) → A → A
+  onNumber (Value v next) f bad = f v next
+  onNumber Malformed f bad = bad
+
+-- a number and a comma
+unfoldable pub commaAt : List ℕ → ℕ → Numeral
+commaAt s at = onNumber (numberAt s at) (λ v next. cond (eqb (getD s next 0) 44) (Value v (next + 1)) Malformed) Malformed
+
+-- the byte behind an entry, at n: a semicolon or byte 10
+abbrev pub broken : List ℕ → ℕ → ℕ → ℕ → ℕ → Entry
+broken s x y z n = cond (eqb (getD s n 0) 59) (More x y z (n + 1)) (cond (eqb (getD s n 0) 10) (Last x y z (n + 1)) Bad)
+
+-- `x,y,l`
+unfoldable pub pinEntryAt : List ℕ → ℕ → Entry
+pinEntryAt s at =
+    onNumber (commaAt s at) (λ x p. onNumber (commaAt s p) (λ y q. onNumber (numberAt s q) (λ l n. broken s x y l n) Bad) Bad) Bad
+
+-- `x,y,e` or `x,y,n`
+unfoldable pub edgeEntryAt : List ℕ → ℕ → Entry
+edgeEntryAt s at =
+    onNumber (commaAt s at)
+    (λ x p.
+    onNumber (commaAt s p)
+    (λ y q. cond (eqb (getD s q 0) 101) (broken s x y 0 (q + 1)) (cond (eqb (getD s q 0) 110) (broken s x y 1 (q + 1)) Bad))
+    Bad)
+    Bad

@@ -1,0 +1,178 @@
+// Numbers, keys and entries at a place of the job text. Every function takes any place: past the end there is nothing to read.
+ghost use mathlib.Core.Path.{_≡_};
+ghost use Prim.Native.Nat.{_+_, _-_, _≤_};
+ghost use lib.ListN.{length, drop};
+ghost use lib.Seq.{slice};
+ghost use Rattle.model.specs.Text.{isDigit, valueFrom};
+ghost use Rattle.text.specs.Number.{digitRun, numberAt};
+ghost use Rattle.text.specs.Entries.{startsWith, commaAt, broken, pinEntryAt, edgeEntryAt};
+
+// A number and the place after it.
+pub enum Numeral {
+    Value(usize, usize),
+    Malformed,
+}
+
+// An entry of three parts and the place after the byte behind it, a semicolon or byte 10. Of an edge the third part is 0 for east and 1 for north.
+pub enum Entry {
+    More(usize, usize, usize, usize),
+    Last(usize, usize, usize, usize),
+    Bad,
+}
+
+fn is_digit(b: u8) -> bool
+    ensures { λ r. ⌜ r ≡ isDigit b ⌝ }
+{
+    48 <= b && b <= 57
+}
+
+// The first place from `at` on where no digit stands.
+fn past_digits(s: &[u8], at: usize) -> usize
+    ensures { λ r. ⌜ r ≡ at + length (digitRun (drop at (now (s .entry)))) ⌝ }
+{
+    let mut i = at;
+    while i < s.len() {
+        let b = s[i];
+        if !is_digit(b) {
+            return i;
+        }
+        i += 1;
+    }
+    i
+}
+
+fn digit_value(b: u8) -> usize
+    ensures { λ r. ⌜ r ≡ b - 48 ⌝ }
+    ensures { λ r. ⌜ r ≤ 207 ⌝ }
+{
+    if b < 48 { 0 } else { (b - 48) as usize }
+}
+
+// What the bytes from `at` up to `end` spell.
+fn value(s: &[u8], at: usize, end: usize) -> usize
+    requires { ⌜ (at ≤ end) × (end ≤ at + 5) × (end ≤ length (now s)) ⌝ }
+    ensures { λ r. ⌜ r ≡ valueFrom 0 (slice at end (now (s .entry))) ⌝ }
+{
+    let mut v = 0;
+    let mut i = at;
+    while i < end {
+        v = 10 * v + digit_value(s[i]);
+        i += 1;
+    }
+    v
+}
+
+// The number that stands at `at`.
+pub fn number(s: &[u8], at: usize) -> Numeral
+    ensures { λ r. ⌜ r ≡ numberAt (now (s .entry)) at ⌝ }
+{
+    let end = past_digits(s, at);
+    let n = end - at;
+    if n < 1 {
+        return Numeral::Malformed;
+    }
+    if 5 < n {
+        return Numeral::Malformed;
+    }
+    let b = s[at];
+    if b == 48 {
+        if n != 1 {
+            return Numeral::Malformed;
+        }
+    }
+    let v = value(s, at, end);
+    Numeral::Value(v, end)
+}
+
+// Whether the key stands at `at`.
+pub fn key_at(s: &[u8], at: usize, key: &[u8]) -> bool
+    requires { ⌜ at ≤ length (now s) ⌝ }
+    ensures { λ r. ⌜ r ≡ startsWith (now (key .entry)) (drop at (now (s .entry))) ⌝ }
+{
+    let mut i = 0;
+    while i < key.len() {
+        if s.len() - at <= i {
+            return false;
+        }
+        if key[i] != s[at + i] {
+            return false;
+        }
+        i += 1;
+    }
+    true
+}
+
+// A number and a comma.
+fn with_comma(s: &[u8], at: usize) -> Numeral
+    ensures { λ r. ⌜ r ≡ commaAt (now (s .entry)) at ⌝ }
+{
+    match number(s, at) {
+        Numeral::Malformed => Numeral::Malformed,
+        Numeral::Value(v, next) => {
+            if s.len() <= next {
+                return Numeral::Malformed;
+            }
+            if s[next] == 44 {
+                Numeral::Value(v, next + 1)
+            } else {
+                Numeral::Malformed
+            }
+        }
+    }
+}
+
+// The entry x,y,z with the byte behind it, which stands at n.
+fn break_at(s: &[u8], x: usize, y: usize, z: usize, n: usize) -> Entry
+    ensures { λ r. ⌜ r ≡ broken (now (s .entry)) x y z n ⌝ }
+{
+    if s.len() <= n {
+        return Entry::Bad;
+    }
+    let b = s[n];
+    if b == 59 {
+        return Entry::More(x, y, z, n + 1);
+    }
+    if b == 10 {
+        return Entry::Last(x, y, z, n + 1);
+    }
+    Entry::Bad
+}
+
+// A pin and the byte behind it.
+pub fn pin_at(s: &[u8], at: usize) -> Entry
+    ensures { λ r. ⌜ r ≡ pinEntryAt (now (s .entry)) at ⌝ }
+{
+    let Numeral::Value(x, p) = with_comma(s, at) else {
+        return Entry::Bad;
+    };
+    let Numeral::Value(y, q) = with_comma(s, p) else {
+        return Entry::Bad;
+    };
+    let Numeral::Value(l, n) = number(s, q) else {
+        return Entry::Bad;
+    };
+    break_at(s, x, y, l, n)
+}
+
+// An edge and the byte behind it.
+pub fn edge_at(s: &[u8], at: usize) -> Entry
+    ensures { λ r. ⌜ r ≡ edgeEntryAt (now (s .entry)) at ⌝ }
+{
+    let Numeral::Value(x, p) = with_comma(s, at) else {
+        return Entry::Bad;
+    };
+    let Numeral::Value(y, q) = with_comma(s, p) else {
+        return Entry::Bad;
+    };
+    if s.len() <= q {
+        return Entry::Bad;
+    }
+    let b = s[q];
+    if b == 101 {
+        return break_at(s, x, y, 0, q + 1);
+    }
+    if b == 110 {
+        return break_at(s, x, y, 1, q + 1);
+    }
+    Entry::Bad
+}
