@@ -1,2 +1,3 @@
 pub mod Number
 pub mod Entries
+pub mod Refusals

@@ -7,6 +7,32 @@ ghost use Rattle.model.specs.Text.{isDigit, valueFrom};
 ghost use Rattle.text.specs.Number.{digitRun, numberAt};
 ghost use Rattle.text.specs.Entries.{startsWith, commaAt, broken, pinEntryAt, edgeEntryAt};
 
+// The reading place: where the next line starts, and how many lines were read.
+pub struct Cursor {
+    pub at: usize,
+    pub line: usize,
+}
+
+// A fault of one line.
+pub enum Fault {
+    Form,
+    Range,
+    Turn,
+    PinTwice,
+    EdgeTwice,
+    Ring,
+    Apart,
+}
+
+// What refuses a job: its number and its line are `numberOf` and `lineOf`.
+pub enum Refusal {
+    TooLong,
+    Line(Fault, usize),
+    Working(usize),
+    Order(usize),
+    Short(usize),
+}
+
 // A number and the place after it.
 pub enum Numeral {
     Value(usize, usize),

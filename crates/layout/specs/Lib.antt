@@ -1,0 +1,3 @@
+pub mod Shapes
+pub mod Areas
+pub mod Table

@@ -1,0 +1,51 @@
+-- The stack and the grid as the code has them.
+-- Assumes nothing.
+use mathlib.Core.Bool.{Bool, true, false, cond}
+use mathlib.Core.Path.{_≡_}
+use Prim.Native.Nat.{ℕ, zero, suc, _+_, _-_, _*_, _/_, _≤_, _<_}
+use lib.Dec.{ltb}
+use Rattle.model.specs.Grid.{tiles, eastCount, northCount, gridEdges}
+use Rattle.model.specs.Limits.{leastSide, mostSide, leastLayers, mostLayers}
+use Rattle.layout.specs.declared.Made.{Made}
+use Rattle.layout.specs.declared.Made.the-variants.{Stack as stacked, Outside}
+use Rattle.layout.specs.declared.Shape.{Shape}
+use Rattle.layout.specs.declared.Way.{Way}
+
+-- "K, the value of `layers`, is from 2 to 8"
+abbrev pub stackOf : ℕ → Made
+stackOf k = cond (ltb k leastLayers) Outside (cond (ltb mostLayers k) Outside (stacked (record { layers = k })))
+
+abbrev pub shapeOf : ℕ → ℕ → ℕ → Shape
+shapeOf W H K = record { w = W; h = H; k = K; t = tiles W H; east = eastCount W H; e = gridEdges W H }
+
+-- a shape of sizes within document 01's limits, and how large its numbers can be
+pub record Shaped (g : Shape) : Type 0 where
+  pub w-least : leastSide ≤ g .w
+  pub w-most : g .w ≤ mostSide
+  pub h-least : leastSide ≤ g .h
+  pub h-most : g .h ≤ mostSide
+  pub k-least : leastLayers ≤ g .k
+  pub k-most : g .k ≤ mostLayers
+  pub t-is : g .t ≡ tiles (g .w) (g .h)
+  pub east-is : g .east ≡ eastCount (g .w) (g .h)
+  pub e-is : g .e ≡ gridEdges (g .w) (g .h)
+  pub t-least : 1 ≤ g .t
+  pub t-most : g .t ≤ 4096
+  pub east-most : g .east ≤ g .e
+  pub e-most : g .e ≤ 8064
+  pub e-tiles : g .e ≤ 2 * g .t
+  pub all-most : g .k * g .e ≤ 64512
+
+-- the way by its number: 0 east, 1 north, 2 west, 3 south
+abbrev pub wayOf : Shape → ℕ → ℕ → Way
+wayOf g t zero = record { tile = t + 1; edge = t - t / g .w }
+wayOf g t (suc zero) = record { tile = t + g .w; edge = g .east + t }
+wayOf g t (suc (suc zero)) = record { tile = t - 1; edge = t - 1 - t / g .w }
+wayOf g t (suc (suc (suc d))) = record { tile = t - g .w; edge = g .east + (t - g .w) }
+
+-- the way starts at a tile, and where it goes west or south there is a tile there
+pub record WayRoom (g : Shape) (t d : ℕ) : Type 0 where
+  pub way : d < 4
+  pub tile : t < g .t
+  pub west : d ≡ 2 → 1 + t / g .w ≤ t
+  pub south : d ≡ 3 → g .w ≤ t

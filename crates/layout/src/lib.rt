@@ -1,0 +1,251 @@
+// The stack of layers, the grid of tiles, and where each thing stands in the working numbers.
+ghost use mathlib.Core.Path.{_≡_};
+ghost use Prim.Native.Nat.{ℕ, _+_, _-_, _*_, _<_, _≤_};
+ghost use Rattle.model.specs.Read.{workingNeed};
+ghost use Rattle.layout.specs.Shapes.{stackOf, shapeOf, Shaped, wayOf, WayRoom};
+ghost use Rattle.layout.specs.Areas.{loadsAt, demandAt, flatAt, tilesAt, linksAt, chosenAt, listAt, stopsAt, aboveAt, engineAt};
+ghost use Rattle.layout.specs.Table.{pinsColumn, edgesColumn, entriesColumn, firstColumn, countColumn, viasColumn};
+
+// K layers. "Limits belong to the stack".
+pub struct Stack {
+    pub layers: usize,
+}
+
+pub enum Made {
+    Stack(Stack),
+    Outside,
+}
+
+impl Stack {
+    pub const LEAST: usize = 2;
+
+    pub const MOST: usize = 8;
+
+    pub fn new(k: usize) -> Made
+        ensures { λ r. ⌜ r ≡ stackOf k ⌝ }
+    {
+        if k < Stack::LEAST {
+            return Made::Outside;
+        }
+        if Stack::MOST < k {
+            return Made::Outside;
+        }
+        Made::Stack(Stack { layers: k })
+    }
+}
+
+// W, H and K; T tiles, the edges that go east, and E edges in all.
+pub struct Shape {
+    pub w: usize,
+    pub h: usize,
+    pub k: usize,
+    pub t: usize,
+    pub east: usize,
+    pub e: usize,
+}
+
+pub fn shape_of(w: usize, h: usize, stack: Stack) -> Shape
+    requires { ⌜ (1 ≤ w) × (w ≤ 64) × (1 ≤ h) × (h ≤ 64) × (2 ≤ stack .layers) × (stack .layers ≤ 8) ⌝ }
+    ensures { λ r. ⌜ r ≡ shapeOf w h (stack .layers) ⌝ }
+    ensures { λ r. ⌜ Shaped r ⌝ }
+{
+    let east = (w - 1) * h;
+    let north = w * (h - 1);
+    Shape {
+        w,
+        h,
+        k: stack.layers,
+        t: w * h,
+        east,
+        e: east + north,
+    }
+}
+
+// How many working numbers a job needs.
+pub fn need(g: Shape) -> usize
+    requires { ⌜ Shaped g ⌝ }
+    ensures { λ r. ⌜ r ≡ workingNeed (g .w) (g .h) (g .k) ⌝ }
+    ensures { λ r. ⌜ r ≤ 300000 ⌝ }
+{
+    2 * g.k * g.e + 2 * g.e + 32 * g.t
+}
+
+// A way out of a tile: the tile that it leads to, and the number of its edge.
+pub struct Way {
+    pub tile: usize,
+    pub edge: usize,
+}
+
+// "The four ways out of a tile come in the order east, north, west, south": 0, 1, 2, 3.
+pub fn way_out(g: Shape, t: usize, d: usize) -> Way
+    requires { ⌜ Shaped g ⌝ }
+    requires { ⌜ WayRoom g t d ⌝ }
+    ensures { λ r. ⌜ r ≡ wayOf g t d ⌝ }
+{
+    match d {
+        0 => Way {
+            tile: t + 1,
+            edge: t - t / g.w,
+        },
+        1 => Way {
+            tile: t + g.w,
+            edge: g.east + t,
+        },
+        2 => Way {
+            tile: t - 1,
+            edge: t - 1 - t / g.w,
+        },
+        _ => Way {
+            tile: t - g.w,
+            edge: g.east + (t - g.w),
+        },
+    }
+}
+
+// ---- the working numbers: where each part starts
+
+// The nets on each layer of each edge, K to an edge. The capacities stand likewise from 0 on.
+pub fn loads_at(g: Shape) -> usize
+    requires { ⌜ Shaped g ⌝ }
+    ensures { λ r. ⌜ r ≡ loadsAt g ⌝ }
+    ensures { λ r. ⌜ r ≤ 64512 ⌝ }
+{
+    g.k * g.e
+}
+
+// The flat demand of each edge; while nets are placed, the overflow that the edge has left.
+pub fn demand_at(g: Shape) -> usize
+    requires { ⌜ Shaped g ⌝ }
+    ensures { λ r. ⌜ r ≡ demandAt g ⌝ }
+    ensures { λ r. ⌜ r ≤ 129024 ⌝ }
+{
+    2 * (g.k * g.e)
+}
+
+// The flat capacity of each edge.
+pub fn flat_at(g: Shape) -> usize
+    requires { ⌜ Shaped g ⌝ }
+    ensures { λ r. ⌜ r ≡ flatAt g ⌝ }
+    ensures { λ r. ⌜ r ≤ 137088 ⌝ }
+{
+    demand_at(g) + g.e
+}
+
+// By tile: a stamp, the ways used and the pins of the net at hand.
+pub fn tiles_at(g: Shape) -> usize
+    requires { ⌜ Shaped g ⌝ }
+    ensures { λ r. ⌜ r ≡ tilesAt g ⌝ }
+    ensures { λ r. ⌜ r ≤ 145152 ⌝ }
+{
+    flat_at(g) + g.e
+}
+
+// By tile: a stamp, and a lower tile that it is joined with.
+pub fn links_at(g: Shape) -> usize
+    requires { ⌜ Shaped g ⌝ }
+    ensures { λ r. ⌜ r ≡ linksAt g ⌝ }
+    ensures { λ r. ⌜ r ≤ 149248 ⌝ }
+{
+    tiles_at(g) + g.t
+}
+
+// By edge, 2 × T: the layer chosen for it.
+pub fn chosen_at(g: Shape) -> usize
+    requires { ⌜ Shaped g ⌝ }
+    ensures { λ r. ⌜ r ≡ chosenAt g ⌝ }
+    ensures { λ r. ⌜ r ≤ 153344 ⌝ }
+{
+    links_at(g) + g.t
+}
+
+// The edges of the net at hand, in the order of its `edges` line.
+pub fn list_at(g: Shape) -> usize
+    requires { ⌜ Shaped g ⌝ }
+    ensures { λ r. ⌜ r ≡ listAt g ⌝ }
+    ensures { λ r. ⌜ r ≤ 161536 ⌝ }
+{
+    chosen_at(g) + 2 * g.t
+}
+
+// By walk place: the tile.
+pub fn stops_at(g: Shape) -> usize
+    requires { ⌜ Shaped g ⌝ }
+    ensures { λ r. ⌜ r ≡ stopsAt g ⌝ }
+    ensures { λ r. ⌜ r ≤ 165632 ⌝ }
+{
+    list_at(g) + g.t
+}
+
+// By walk place: the edge above it.
+pub fn above_at(g: Shape) -> usize
+    requires { ⌜ Shaped g ⌝ }
+    ensures { λ r. ⌜ r ≡ aboveAt g ⌝ }
+    ensures { λ r. ⌜ r ≤ 169728 ⌝ }
+{
+    stops_at(g) + g.t
+}
+
+// By walk place, 12 × T: the end of its branches, its pins, the legal layers and the layer of the edge above it, and 8 costs.
+pub fn engine_at(g: Shape) -> usize
+    requires { ⌜ Shaped g ⌝ }
+    ensures { λ r. ⌜ r ≡ engineAt g ⌝ }
+    ensures { λ r. ⌜ r ≤ 173824 ⌝ }
+{
+    above_at(g) + g.t
+}
+
+// ---- the net table: six numbers for each net
+
+// The place in the text after `pins=`.
+pub fn pins_column(i: usize) -> usize
+    requires { ⌜ i < 4096 ⌝ }
+    ensures { λ r. ⌜ r ≡ pinsColumn i ⌝ }
+    ensures { λ r. ⌜ r < 24576 ⌝ }
+{
+    6 * i
+}
+
+// The place in the text after `edges=`.
+pub fn edges_column(i: usize) -> usize
+    requires { ⌜ i < 4096 ⌝ }
+    ensures { λ r. ⌜ r ≡ edgesColumn i ⌝ }
+    ensures { λ r. ⌜ r < 24576 ⌝ }
+{
+    6 * i + 1
+}
+
+// The entries of the `pins` line.
+pub fn entries_column(i: usize) -> usize
+    requires { ⌜ i < 4096 ⌝ }
+    ensures { λ r. ⌜ r ≡ entriesColumn i ⌝ }
+    ensures { λ r. ⌜ r < 24576 ⌝ }
+{
+    6 * i + 2
+}
+
+// The place of the net's first layer in the answer list.
+pub fn first_column(i: usize) -> usize
+    requires { ⌜ i < 4096 ⌝ }
+    ensures { λ r. ⌜ r ≡ firstColumn i ⌝ }
+    ensures { λ r. ⌜ r < 24576 ⌝ }
+{
+    6 * i + 3
+}
+
+// The entries of the `edges` line.
+pub fn count_column(i: usize) -> usize
+    requires { ⌜ i < 4096 ⌝ }
+    ensures { λ r. ⌜ r ≡ countColumn i ⌝ }
+    ensures { λ r. ⌜ r < 24576 ⌝ }
+{
+    6 * i + 4
+}
+
+// The vias of the net, once it is placed.
+pub fn vias_column(i: usize) -> usize
+    requires { ⌜ i < 4096 ⌝ }
+    ensures { λ r. ⌜ r ≡ viasColumn i ⌝ }
+    ensures { λ r. ⌜ r < 24576 ⌝ }
+{
+    6 * i + 5
+}
