@@ -1,0 +1,91 @@
+-- Marks of tiles at a stamp, over a list of words.
+-- Assumes nothing.
+use mathlib.Core.Bool.{Bool, true, false, _&&_, _||_, not, cond}
+use mathlib.Core.List.{List}
+use mathlib.Core.Path.{_≡_, refl, sym, ap, _∙_}
+use Prim.Native.Nat.{ℕ, zero, suc, _+_, _*_, _^_, _≤_, _<_}
+use lib.Dec.{eqb}
+use lib.ListN.{length, getD, set, length-set, List·getD-eq-default}
+use lib.Seq.{getD-set-same, getD-set-other}
+use borrow.Author.Tests.{eq-eqb, ne-eqb}
+use native.Mathlib.Decide.{ℕ-discrete, decLt}
+use native.Mathlib.Omega.{arith}
+use Rattle.marks.specs.Words.{bitsIn, bitOf, Fits, bits-small, bits-new, bits-old, bit-add, bit-room, bit-zero}
+use Rattle.marks.specs.declared.Put.{Put}
+use Rattle.marks.specs.declared.Put.the-variants.{Twice, Fresh, Known}
+
+-- the bits of tile t
+abbrev pub bitsAt : ℕ → List ℕ → ℕ → ℕ
+bitsAt n a t = bitsIn n (getD a t 0)
+
+-- bit i of tile t is marked
+abbrev pub marked : ℕ → List ℕ → ℕ → ℕ → Bool
+marked n a t i = bitOf (bitsAt n a t) i
+
+-- tile t has some mark
+abbrev pub touched : ℕ → List ℕ → ℕ → Bool
+touched n a t = not (eqb (bitsAt n a t) 0)
+
+-- one more mark
+abbrev pub mark : ℕ → List ℕ → ℕ → ℕ → List ℕ
+mark n a t i = set a t (n * 4096 + (bitsAt n a t + 2 ^ i))
+
+-- what marking finds, and what it leaves
+unfoldable pub putOf : ℕ → List ℕ → ℕ → ℕ → Put
+putOf n a t i = cond (marked n a t i) Twice (cond (eqb (bitsAt n a t) 0) Fresh Known)
+
+unfoldable pub marksAfter : ℕ → List ℕ → ℕ → ℕ → List ℕ
+marksAfter n a t i = cond (marked n a t i) a (mark n a t i)
+
+-- ---- one mark
+
+module _ (n : ℕ) (a : List ℕ) (t i : ℕ) (room : t < length a) (i-small : i < 12) (new : marked n a t i ≡ false) where
+  added : bitsAt n a t + 2 ^ i < 4096
+  added = bit-room (bitsAt n a t) i 12 new (bits-small n (getD a t 0)) i-small
+
+  pub bits-here : bitsAt n (mark n a t i) t ≡ bitsAt n a t + 2 ^ i
+  bits-here = rw (getD-set-same a t (n * 4096 + (bitsAt n a t + 2 ^ i)) 0 room) (bits-new n (bitsAt n a t + 2 ^ i) added)
+
+  pub bits-there : (u : ℕ) → (u ≡ t → ⊥) → bitsAt n (mark n a t i) u ≡ bitsAt n a u
+  bits-there u h = rw (getD-set-other a t u (n * 4096 + (bitsAt n a t + 2 ^ i)) 0 h)
+
+  -- the marks are those before, and the new one
+  pub mark-has : (u k : ℕ) → marked n (mark n a t i) u k ≡ ((eqb t u && eqb i k) || marked n a u k)
+  mark-has u k = go (ℕ-discrete u t)
+    where
+      go : Dec (u ≡ t) → marked n (mark n a t i) u k ≡ ((eqb t u && eqb i k) || marked n a u k)
+      go (yes e) = rw (e, eq-eqb t t refl) (ap (λ (m : ℕ). bitOf m k) bits-here ∙ bit-add (bitsAt n a t) i k new)
+      go (no h) = rw (ne-eqb t u (λ q. h (sym q))) (ap (λ (m : ℕ). bitOf m k) (bits-there u h))
+
+  -- and so are the tiles that have one
+  pub mark-touches : (u : ℕ) → touched n (mark n a t i) u ≡ (eqb t u || touched n a u)
+  mark-touches u = go (ℕ-discrete u t)
+    where
+      go : Dec (u ≡ t) → touched n (mark n a t i) u ≡ (eqb t u || touched n a u)
+      go (yes e) = rw (e, eq-eqb t t refl) (ap (λ (q : Bool). not q) (ne-eqb (bitsAt n (mark n a t i) t) 0 (λ z. omega (arith, bits-here, some i))))
+        where
+          some : (j : ℕ) → 1 ≤ 2 ^ j
+          some zero = omega arith
+          some (suc j) = omega (arith, some j, pow-two j)
+            where
+              pow-two : (j : ℕ) → 2 ^ suc j ≡ 2 * 2 ^ j
+              pow-two j = omega arith
+      go (no h) = rw (ne-eqb t u (λ q. h (sym q))) (ap (λ (m : ℕ). not (eqb m 0)) (bits-there u h))
+
+  -- no stamp is above the current one
+  pub mark-fits : Fits n a → Fits n (mark n a t i)
+  mark-fits f u = go (ℕ-discrete u t)
+    where
+      go : Dec (u ≡ t) → getD (mark n a t i) u 0 < (n + 1) * 4096
+      go (yes e) = rw (e, getD-set-same a t (n * 4096 + (bitsAt n a t + 2 ^ i)) 0 room) (omega (arith, added))
+      go (no h) = rw (getD-set-other a t u (n * 4096 + (bitsAt n a t + 2 ^ i)) 0 h) (f u)
+
+pub mark-long : (n : ℕ) (a : List ℕ) (t i : ℕ) → length (mark n a t i) ≡ length a
+mark-long n a t i = length-set a t (n * 4096 + (bitsAt n a t + 2 ^ i))
+
+-- where every stamp is earlier there is no mark yet
+pub none-yet : (n : ℕ) (a : List ℕ) → ((t : ℕ) → getD a t 0 < n * 4096) → (t : ℕ) → bitsAt n a t ≡ 0
+none-yet n a h t = bits-old n (getD a t 0) (h t)
+
+pub none-marked : (n : ℕ) (a : List ℕ) → ((t : ℕ) → getD a t 0 < n * 4096) → (t i : ℕ) → marked n a t i ≡ false
+none-marked n a h t i = rw (none-yet n a h t) (bit-zero i)
