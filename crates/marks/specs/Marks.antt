@@ -26,6 +26,10 @@ marked n a t i = bitOf (bitsAt n a t) i
 abbrev pub touched : ℕ → List ℕ → ℕ → Bool
 touched n a t = not (eqb (bitsAt n a t) 0)
 
+-- every stamp is earlier
+abbrev pub Older : ℕ → List ℕ → Type 0
+Older n a = (t : ℕ) → getD a t 0 < n * 4096
+
 -- one more mark
 abbrev pub mark : ℕ → List ℕ → ℕ → ℕ → List ℕ
 mark n a t i = set a t (n * 4096 + (bitsAt n a t + 2 ^ i))
@@ -83,9 +87,16 @@ module _ (n : ℕ) (a : List ℕ) (t i : ℕ) (room : t < length a) (i-small : i
 pub mark-long : (n : ℕ) (a : List ℕ) (t i : ℕ) → length (mark n a t i) ≡ length a
 mark-long n a t i = length-set a t (n * 4096 + (bitsAt n a t + 2 ^ i))
 
+-- the marks of a net are earlier ones to the next
+pub fits-older : (n : ℕ) (a : List ℕ) → Fits n a → Older (n + 1) a
+fits-older n a f = f
+
+pub older-fits : (n : ℕ) (a : List ℕ) → Older n a → Fits n a
+older-fits n a o t = omega (arith, o t)
+
 -- where every stamp is earlier there is no mark yet
-pub none-yet : (n : ℕ) (a : List ℕ) → ((t : ℕ) → getD a t 0 < n * 4096) → (t : ℕ) → bitsAt n a t ≡ 0
+pub none-yet : (n : ℕ) (a : List ℕ) → Older n a → (t : ℕ) → bitsAt n a t ≡ 0
 none-yet n a h t = bits-old n (getD a t 0) (h t)
 
-pub none-marked : (n : ℕ) (a : List ℕ) → ((t : ℕ) → getD a t 0 < n * 4096) → (t i : ℕ) → marked n a t i ≡ false
+pub none-marked : (n : ℕ) (a : List ℕ) → Older n a → (t i : ℕ) → marked n a t i ≡ false
 none-marked n a h t i = rw (none-yet n a h t) (bit-zero i)

@@ -4,3 +4,4 @@ pub mod Keys
 pub mod Ways
 pub mod Pins
 pub mod Edges
+pub mod Inside

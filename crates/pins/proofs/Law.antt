@@ -1,0 +1,80 @@
+-- The loop's answer is the definitions', where every mark is an earlier net's.
+-- Assumes nothing.
+use mathlib.Core.Bool.{Bool, true, false, _&&_, _||_, cond}
+use mathlib.Core.List.{List, [], _∷_, map}
+use mathlib.Core.Option.{none, some}
+use mathlib.Core.Path.{_≡_, refl, sym, ap, _∙_}
+use Prim.Native.Nat.{ℕ, _+_, _*_, _-_, _≤_, _<_}
+use native.Mathlib.Numerals.{add-one}
+use native.Mathlib.Omega.{arith}
+use lib.ListN.{length, drop}
+use lib.Seq.{drop-drop}
+use Rattle.layout.specs.declared.Shape.{Shape}
+use Rattle.layout.specs.Shapes.{Shaped}
+use Rattle.marks.specs.Marks.{Older}
+use Rattle.model.specs.Job.{Pin}
+use Rattle.model.specs.Lists.{all, twice}
+use Rattle.model.specs.Read.{Result, refused, found, Triple, pinInside, pinAt, samePin, pinsLine}
+use Rattle.model.specs.Text.{bytes}
+use Rattle.scan.specs.Inside.{inside-is, tile-below, false-true}
+use Rattle.scan.specs.Keys.{judged, pins-law, behind-is}
+use Rattle.scan.specs.Lines.{Lined}
+use Rattle.scan.specs.Pins.{pinsOf}
+use Rattle.text.specs.Entries.{startsWith}
+use Rattle.pins.specs.Laws.{AllInside, first-twice}
+use Rattle.pins.specs.Pins.{Marked, markPins, markedTwice, newTiles, pinsMarked, start, finish, mapped}
+
+module _ (g : Shape) (shaped : Shaped g) (n : ℕ) (a : List ℕ) (older : Older n a) (room : g .t ≤ length a) where
+  -- the first of those that pass, and the others
+  first-passes : (t : Triple) (ts : List Triple) → all (pinInside (g .w) (g .h) (g .k)) (t ∷ ts) ≡ true
+      → (pinInside (g .w) (g .h) (g .k) t ≡ true) × (all (pinInside (g .w) (g .h) (g .k)) ts ≡ true)
+  first-passes t ts e = go (pinInside (g .w) (g .h) (g .k) t) e
+    where
+      go : (p : Bool) → cond p (all (pinInside (g .w) (g .h) (g .k)) ts) false ≡ true → (p ≡ true) × (all (pinInside (g .w) (g .h) (g .k)) ts ≡ true)
+      go true h = (refl, h)
+      go false h = absurd (false-true h)
+
+  pub all-inside : (ts : List Triple) → all (pinInside (g .w) (g .h) (g .k)) ts ≡ true → AllInside (length a) (map (pinAt (g .w)) ts)
+  all-inside [] e = tt
+  all-inside (t ∷ ts) e =
+      let f = first-passes t ts e in
+      let i = inside-is (g .w) (g .h) (g .k) (t .x) (t .y) (t .third) (f .0) in
+      ((omega (arith, tile-below (g .w) (g .h) (t .x) (t .y) (i .0) (i .1), shaped .t-is), i .2, omega (arith, i .3, shaped .k-most)), all-inside ts (f .1))
+
+  pub finish-law : (l : ℕ) (r : Lined) → finish g n l start a r ≡ mapped (pinsMarked n a) (judged (g .w) (g .h) (g .k) l r)
+  finish-law l none = refl
+  finish-law l (some c) = go (all (pinInside (g .w) (g .h) (g .k)) (c .0)) refl
+    where
+      pins : List Pin
+      pins = map (pinAt (g .w)) (c .0)
+
+      leaves : ℕ → ℕ → Result Marked
+      leaves e t = found (record { marks = markPins n a pins; entries = e; tiles = t }) (record { line = l; rest = c .1 })
+
+      zeros : leaves (0 + length pins) (0 + newTiles n a pins) ≡ leaves (length pins) (newTiles n a pins)
+      zeros =
+          let x : 0 + length pins ≡ length pins = omega arith in
+          let y : 0 + newTiles n a pins ≡ newTiles n a pins = omega arith in
+          λ i. leaves (x i) (y i)
+
+      end : (q : Bool) → cond q (refused 5 l) (leaves (0 + length pins) (0 + newTiles n a pins))
+          ≡ mapped (pinsMarked n a) (cond q (refused 5 l) (found pins (record { line = l; rest = c .1 })))
+      end true = refl
+      end false = zeros
+
+      go : (p : Bool) → all (pinInside (g .w) (g .h) (g .k)) (c .0) ≡ p
+          → cond (true && p) (cond (false || markedTwice n a pins) (refused 5 l) (leaves (0 + length pins) (0 + newTiles n a pins))) (refused 3 l)
+          ≡ mapped (pinsMarked n a) (cond p (cond (twice samePin pins) (refused 5 l) (found pins (record { line = l; rest = c .1 }))) (refused 3 l))
+      go false e = refl
+      go true e = rw (first-twice n a older pins (all-inside (c .0) e)) (end (twice samePin pins))
+
+  module _ (m : ℕ) (s : List ℕ) (at : ℕ) where
+    pub line-no-key : startsWith (bytes "pins=") (drop at s) ≡ false
+        → refused 2 (m + 1) ≡ mapped (pinsMarked n a) (pinsLine (g .w) (g .h) (g .k) (record { line = m; rest = drop at s }))
+    line-no-key e = sym (rw (pins-law (g .w) (g .h) (g .k) m (drop at s), behind-is (bytes "pins=") (drop at s), e, add-one))
+
+    pub line-key : startsWith (bytes "pins=") (drop at s) ≡ true
+        → finish g n (m + 1) start a (pinsOf (drop (at + 5) s)) ≡ mapped (pinsMarked n a) (pinsLine (g .w) (g .h) (g .k) (record { line = m; rest = drop at s }))
+    line-key e =
+        finish-law (m + 1) (pinsOf (drop (at + 5) s))
+        ∙ sym (rw (pins-law (g .w) (g .h) (g .k) m (drop at s), behind-is (bytes "pins=") (drop at s), e, drop-drop 5 at s, add-one))

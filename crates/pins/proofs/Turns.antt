@@ -1,0 +1,114 @@
+-- A turn of the loop over the entries of a line.
+-- Assumes nothing.
+use mathlib.Core.Bool.{Bool, true, false, _&&_, _||_, cond}
+use mathlib.Core.List.{List, [], _∷_, map}
+use mathlib.Core.Option.{none, some}
+use mathlib.Core.Path.{_≡_, refl, sym, ap, ap₂, _∙_}
+use Prim.Native.Nat.{ℕ, suc, _+_, _-_, _≤_, _<_}
+use native.Mathlib.Omega.{arith}
+use lib.Dec.{eqb}
+use lib.ListN.{length, drop}
+use Rattle.layout.specs.declared.Shape.{Shape}
+use Rattle.marks.specs.Marks.{bitsAt, marked, mark, marksAfter}
+use Rattle.model.specs.Job.{Pin}
+use Rattle.model.specs.Lists.{all, bit}
+use Rattle.model.specs.Read.{Result, refused, found, Triple, pinInside, pinAt}
+use Rattle.scan.specs.Lines.{Lined, consTo}
+use Rattle.scan.specs.Pins.{triple, pinsOf, pin-is}
+use Rattle.text.specs.Entries.{pinEntryAt}
+use Rattle.text.specs.declared.Entry.the-variants.{More, Last, Bad}
+use Rattle.text.specs.declared.Fault.the-variants.{Form, Range, PinTwice}
+use Rattle.pins.specs.Pins.{markPin, markPins, markedTwice, newTiles, Marked, markedSeen, seenAfter, workAfter, verdictOf, answered, finish}
+use Rattle.pins.specs.declared.PinsRead.{PinsRead}
+use Rattle.pins.specs.declared.PinsRead.the-variants.{Line, Bad as Faulty}
+use Rattle.pins.specs.declared.Seen.{Seen}
+
+-- a fine line
+abbrev fine : ℕ → List ℕ → ℕ → ℕ → List ℕ → Result Marked
+fine l b e t r = found (record { marks = b; entries = e; tiles = t }) (record { line = l; rest = r })
+
+-- the tests of a line, in their order
+abbrev tested : ℕ → Bool → Bool → Result Marked → Result Marked
+tested l p q r = cond p (cond q (refused 5 l) r) (refused 3 l)
+
+module _ (g : Shape) (n l : ℕ) (v : Seen) (a : List ℕ) (t : Triple) where
+  -- the entry t in front
+  pub finish-some : (c : List Triple × List ℕ) → finish g n l v a (some (t ∷ c .0, c .1)) ≡ finish g n l (seenAfter g n a v t) (workAfter g n a t) (some c)
+  unfolding seenAfter workAfter markedSeen marksAfter
+  finish-some c = go (pinInside (g .w) (g .h) (g .k) t) (marked n a (pinAt (g .w) t .tile) (t .third - 1)) refl refl
+    where
+      pins : List Pin
+      pins = map (pinAt (g .w)) (c .0)
+
+      outside : (p : Bool) (r : Result Marked) → cond (p && false) r (refused 3 l) ≡ refused 3 l
+      outside true r = refl
+      outside false r = refl
+
+      twice : (p : Bool) (r : Result Marked) → cond (p || true) (refused 5 l) r ≡ refused 5 l
+      twice true r = refl
+      twice false r = refl
+
+      found-more : (p q z : Bool) (e t m k : ℕ) (b r : List ℕ)
+          → tested l p q (fine l b (e + suc m) (t + (bit z + k)) r) ≡ tested l p q (fine l b (e + 1 + m) (t + bit z + k) r)
+      found-more p q z e t m k b r =
+          let x : e + suc m ≡ e + 1 + m = omega arith in
+          let y : t + (bit z + k) ≡ t + bit z + k = omega arith in
+          ap₂ (λ (c d : ℕ). tested l p q (fine l b c d r)) x y
+
+      go : (p q : Bool) → pinInside (g .w) (g .h) (g .k) t ≡ p → marked n a (pinAt (g .w) t .tile) (t .third - 1) ≡ q
+          → finish g n l v a (some (t ∷ c .0, c .1))
+          ≡ finish g n l
+          (cond p
+          (cond q (record { entries = v .entries + 1; tiles = v .tiles; inside = v .inside; twice = true })
+          (record { entries = v .entries + 1; tiles = v .tiles + bit (eqb (bitsAt n a (pinAt (g .w) t .tile)) 0); inside = v .inside; twice = v .twice }))
+          (record { entries = v .entries + 1; tiles = v .tiles; inside = false; twice = v .twice }))
+          (cond p (cond q a (mark n a (pinAt (g .w) t .tile) (t .third - 1))) a)
+          (some c)
+      go false q e h = rw e (outside (v .inside) _)
+      go true true e h = rw (e, h, twice (v .twice) _)
+      go true false e h =
+          rw (e, h)
+          (found-more (v .inside && all (pinInside (g .w) (g .h) (g .k)) (c .0)) (v .twice || markedTwice n (markPin n a (pinAt (g .w) t)) pins)
+          (eqb (bitsAt n a (pinAt (g .w) t .tile)) 0) (v .entries) (v .tiles) (length pins) (newTiles n (markPin n a (pinAt (g .w) t)) pins)
+          (markPins n (markPin n a (pinAt (g .w) t)) pins) (c .1))
+
+  pub finish-step : (r : Lined) → finish g n l v a (consTo (some t) r) ≡ finish g n l (seenAfter g n a v t) (workAfter g n a t) r
+  finish-step none = refl
+  finish-step (some c) = finish-some c
+
+pub finish-end : (g : Shape) (n l : ℕ) (v : Seen) (a s : List ℕ) (next : ℕ) → finish g n l v a (some ([], drop next s)) ≡ answered l s a (verdictOf v next)
+unfolding verdictOf
+finish-end g n l v a s next = go (v .inside) (v .twice)
+  where
+    zeros : fine l a (v .entries + 0) (v .tiles + 0) (drop next s) ≡ fine l a (v .entries) (v .tiles) (drop next s)
+    zeros =
+        let x : v .entries + 0 ≡ v .entries = omega arith in
+        let y : v .tiles + 0 ≡ v .tiles = omega arith in
+        ap₂ (λ (c d : ℕ). fine l a c d (drop next s)) x y
+
+    go : (p q : Bool)
+        → tested l (p && true) (q || false) (fine l a (v .entries + 0) (v .tiles + 0) (drop next s))
+        ≡ answered l s a (cond p (cond q (Faulty PinTwice) (Line next (v .entries) (v .tiles))) (Faulty Range))
+    go true true = refl
+    go true false = zeros
+    go false q = refl
+
+-- ---- by what stands at the place
+
+module _ (g : Shape) (n : ℕ) (s : List ℕ) (i : ℕ) (v : Seen) (a : List ℕ) where
+  pub turn-bad : Bad ≡ pinEntryAt s i → (l : ℕ) → finish g n l v a (pinsOf (drop i s)) ≡ refused 2 l
+  turn-bad e l = rw (pin-is s i Bad e)
+
+  module _ (x y z next : ℕ) (v' : Seen) (a' : List ℕ) (p : v' ≡ seenAfter g n a v (triple x y z)) (q : a' ≡ workAfter g n a (triple x y z)) where
+    pub turn-more : More x y z next ≡ pinEntryAt s i → (l : ℕ) → finish g n l v a (pinsOf (drop i s)) ≡ finish g n l v' a' (pinsOf (drop next s))
+    turn-more e l =
+        rw (pin-is s i (More x y z next) e .0)
+        (finish-step g n l v a (triple x y z) (pinsOf (drop next s)) ∙ sym (λ j. finish g n l (p j) (q j) (pinsOf (drop next s))))
+
+    pub turn-last : (r : PinsRead) → r ≡ verdictOf v' next → Last x y z next ≡ pinEntryAt s i → (l : ℕ) → finish g n l v a (pinsOf (drop i s)) ≡ answered l s a' r
+    turn-last r h e l =
+        rw (pin-is s i (Last x y z next) e)
+        (finish-some g n l v a (triple x y z) ([], drop next s) ∙ sym (λ j. finish g n l (p j) (q j) (some ([], drop next s))) ∙ finish-end g n l v' a' s next ∙ ap (answered l s a') (sym h))
+
+pub turn-place : (s : List ℕ) (i x y z next : ℕ) → More x y z next ≡ pinEntryAt s i → (i < next) × (next ≤ length s)
+turn-place s i x y z next e = (pin-is s i (More x y z next) e .1, pin-is s i (More x y z next) e .2)
