@@ -1,3 +1,4 @@
 pub mod Shapes
 pub mod Areas
 pub mod Table
+pub mod Parts
