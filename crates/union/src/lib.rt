@@ -1,0 +1,38 @@
+// Union-find over the tiles of the net at hand, in a slice that the caller lends: one word to a tile, its stamp times 4,096 and the tile's parent.
+// A word of another stamp is a tile that is its own parent, so nothing is cleared between nets.
+ghost use mathlib.Core.Path.{_≡_};
+ghost use Prim.Native.Nat.{ℕ, _+_, _*_, _<_, _≤_};
+ghost use lib.ListN.{length, set};
+ghost use Rattle.union.specs.Links.{parentIn, Links, Found, Merged};
+
+fn parent(a: &[u32], stamp: usize, x: usize) -> usize
+    requires { ⌜ x < length (now a) ⌝ }
+    ensures { λ r. ⌜ r ≡ parentIn stamp (now (a .entry)) x ⌝ }
+{
+    let w = a[x] as usize;
+    if w / 4096 == stamp { w % 4096 } else { x }
+}
+
+fn put(a: &mut [u32], stamp: usize, x: usize, p: usize)
+    requires { ⌜ (stamp ≤ 8192) × (x < length (now a)) × (p < 4096) ⌝ }
+    ensures { λ r. ⌜ now (a .exit) ≡ set (now (a .entry)) x (stamp * 4096 + p) ⌝ }
+{
+    a[x] = (stamp * 4096 + p) as u32;
+}
+
+// The root of tile x. On the way each tile goes to its parent's parent, which changes no root.
+pub fn root(a: &mut [u32], stamp: usize, x: usize) -> usize
+    requires { ⌜ (stamp ≤ 8192) × (length (now a) ≤ 4096) × (x < length (now a)) × Links stamp (now a) ⌝ }
+    ensures { λ r. ⌜ Found stamp (now (a .entry)) x (now (a .exit)) r ⌝ }
+{
+    let mut t = x;
+    loop {
+        let p = parent(a, stamp, t);
+        if p == t {
+            return t;
+        }
+        let q = parent(a, stamp, p);
+        put(a, stamp, t, q);
+        t = q;
+    }
+}
