@@ -36,3 +36,21 @@ pub fn root(a: &mut [u32], stamp: usize, x: usize) -> usize
         t = q;
     }
 }
+
+// Joins tiles x and y: of two roots the larger goes below the smaller. Whether there were two.
+pub fn join(a: &mut [u32], stamp: usize, x: usize, y: usize) -> bool
+    requires { ⌜ (stamp ≤ 8192) × (length (now a) ≤ 4096) × (x < length (now a)) × (y < length (now a)) × Links stamp (now a) ⌝ }
+    ensures { λ r. ⌜ Merged stamp (now (a .entry)) x y (now (a .exit)) r ⌝ }
+{
+    let p = root(a, stamp, x);
+    let q = root(a, stamp, y);
+    if p == q {
+        return false;
+    }
+    if p < q {
+        put(a, stamp, q, p);
+        return true;
+    }
+    put(a, stamp, p, q);
+    true
+}
