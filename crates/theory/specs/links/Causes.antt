@@ -75,8 +75,8 @@ pub record WholeText (text : List ℕ) (j : Job) (p : Place) : Type 0 where
   pub nets : nets (j .width) (j .height) (j .layers) 1 (netCount j) place ≡ found (j .nets) p
   pub ended : p .rest ≡ []
 
--- what is lent is long enough for the job
-pub record Fits (lent : Lent) (j : Job) : Type 0 where
+-- what is lent is enough for the job
+pub record Enough (lent : Lent) (j : Job) : Type 0 where
   pub working : workingNeed (j .width) (j .height) (j .layers) ≤ lent .working
   pub order : netCount j ≤ lent .order
   pub answer : entryCount j ≤ lent .answer
@@ -169,7 +169,7 @@ jobOf h ns = record {
 
 -- what holds of an accepted text
 abbrev Whole : Lent → List ℕ → Job → Place → Type 0
-Whole lent text j p = WholeText text j p × Fits lent j
+Whole lent text j p = WholeText text j p × Enough lent j
 
 whole-of : (text : List ℕ) (h : Head) (ns : List Net) (p q : Place) → HeadLines text h p → nets (h .width) (h .height) (h .layers) 1 (h .nets) p ≡ found ns q
     → length ns ≡ h .nets → q .rest ≡ [] → WholeText text (jobOf h ns) q
@@ -201,7 +201,7 @@ room-leads lent text h ns p whole long t9 t10 line =
     short (inl e) = inl (below (entryCount (jobOf h ns)) (lent .answer) e)
     short (inr e) = inr (print-short (printNeed (netCount (jobOf h ns)) (entryCount (jobOf h ns))) (lent .print) (rw long e))
 
-    fits : T one → T two → Fits lent (jobOf h ns)
+    fits : T one → T two → Enough lent (jobOf h ns)
     fits a b = record {
       working = work;
       order = order;
@@ -270,11 +270,11 @@ cause lent text n l e = leads-refused (read-leads lent text) e
 
 module _ (lent : Lent) (text : List ℕ) (j : Job) (p : Place) where
   -- an accepted text is not too long, its lines give the job, and what is lent is long enough
-  pub accepted-text : read lent text ≡ found j p → (length text ≤ mostText) × WholeText text j p × Fits lent j
+  pub accepted-text : read lent text ≡ found j p → (length text ≤ mostText) × WholeText text j p × Enough lent j
   accepted-text e = let w = leads-found (read-leads lent text) e in (w .1, w .0 .0, w .0 .1)
 
   -- and there is no other condition
-  pub text-accepted : length text ≤ mostText → WholeText text j p → Fits lent j → read lent text ≡ found j p
+  pub text-accepted : length text ≤ mostText → WholeText text j p → Enough lent j → read lent text ≡ found j p
   unfolding read jobIn
   text-accepted short w f =
       rw (

@@ -17,7 +17,7 @@ use Rattle.theory.specs.congestion.Sums.{lt-or-ge}
 use Rattle.theory.specs.links.Refusals.{too-long}
 use Rattle.theory.specs.links.Tests.{is-true, is-false, and-both, all-in}
 use Rattle.theory.specs.links.Lines.{leads-found, Fault, NetFault, on-net, on-pins, on-edges, ranged-leads, capacities-lead, nets-lead}
-use Rattle.theory.specs.links.Causes.{start, FirstLines, Head, HeadLines, headOf, WholeText, Fits, first-once, head-once, whole-once, RoomShort, Cause, long-text, first-lines, working-short, head-lines, order-short, net-lines, text-after, room-short, cause, accepted-text, text-accepted}
+use Rattle.theory.specs.links.Causes.{start, FirstLines, Head, HeadLines, headOf, WholeText, Enough, first-once, head-once, whole-once, RoomShort, Cause, long-text, first-lines, working-short, head-lines, order-short, net-lines, text-after, room-short, cause, accepted-text, text-accepted}
 
 -- ---- the values of the lines
 
@@ -401,7 +401,7 @@ module _ (lent : Lent) (text : List ℕ) (j : Job) (p : Place) (e : read lent te
   accepted-rest = accepted-text lent text j p e .1 .ended
 
   -- the job does not depend on what is lent: with any other lengths that are enough for it the text gives the same job
-  pub accepted-also : (other : Lent) → Fits other j → read other text ≡ found j p
+  pub accepted-also : (other : Lent) → Enough other j → read other text ≡ found j p
   accepted-also other f = let a = accepted-text lent text j p e in text-accepted other text j p (a .0) (a .1) f
 
 -- two lendings that both accept a text read the same job
