@@ -1,7 +1,7 @@
 // Union-find over the tiles of the net at hand, in a slice that the caller lends: one word to a tile, its stamp times 4,096 and the tile's parent.
 // A word of another stamp is a tile that is its own parent, so nothing is cleared between nets.
 ghost use mathlib.Core.Path.{_≡_};
-ghost use Prim.Native.Nat.{ℕ, _+_, _*_, _<_, _≤_};
+ghost use Prim.Native.Nat.{_+_, _*_, _<_, _≤_};
 ghost use lib.ListN.{length, set};
 ghost use Rattle.union.specs.Links.{parentIn, Links, Found, Merged};
 

@@ -2,7 +2,7 @@
 -- Assumes nothing.
 use mathlib.Core.Path.{_≡_, refl, sym, ap, _∙_, subst}
 use mathlib.Core.List.{List, [], _∷_}
-use mathlib.Core.Bool.{Bool, not}
+use mathlib.Core.Bool.{Bool, _||_, not}
 use mathlib.Core.Logic.{_⊎_, inl, inr, ⊎-elim, _≢_}
 use Prim.Native.Nat.{ℕ, _+_, _*_, _≤_, _<_, max, min}
 use native.Mathlib.Omega.{arith}
@@ -31,6 +31,17 @@ pub record Marked (T : ℕ) (touched root : ℕ → ℕ) : Type 0 where
 pub record Touches (touched : ℕ → ℕ) (a : ℕ) (touched′ : ℕ → ℕ) : Type 0 where
   pub here : touched′ a ≡ 1
   pub others : (t : ℕ) → t ≢ a → touched′ t ≡ touched t
+
+-- marks that are tests
+pub touches-test : (p q : ℕ → Bool) (a : ℕ) → ((t : ℕ) → q t ≡ (eqb a t || p t)) → Touches (λ t. bit (p t)) a (λ t. bit (q t))
+touches-test p q a h = record {
+  here = ap bit (h a ∙ ap (λ (b : Bool). b || p a) (eqb-true a a refl));
+  others = λ t n. ap bit (h t ∙ ap (λ (b : Bool). b || p t) (eqb-false a t (λ e. n (sym e))));
+}
+
+-- a tile that was touched before
+pub touches-again : (touched : ℕ → ℕ) (a : ℕ) → touched a ≡ 1 → Touches touched a touched
+touches-again touched a h = record { here = h; others = λ t n. refl }
 
 -- ---- one tile's mark
 
