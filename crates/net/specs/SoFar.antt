@@ -1,0 +1,23 @@
+-- What the working numbers hold of the plan so far: capacities, the nets on each layer of each edge, and the overflow that each edge has left.
+-- Assumes nothing.
+use mathlib.Core.List.{List}
+use mathlib.Core.Path.{_≡_}
+use Prim.Native.Nat.{ℕ, _+_, _-_, _*_, _≤_, _<_}
+use lib.ListN.{getD}
+use Rattle.layout.specs.Areas.{loadsAt, demandAt}
+use Rattle.layout.specs.declared.Shape.{Shape}
+use Rattle.model.specs.Job.{Job, layersOf, capacity}
+use Rattle.model.specs.Legal.{sumOver}
+use Rattle.model.specs.Overflow.{flatOverflow}
+use Rattle.model.specs.Plan.{placed}
+
+-- the capacities, K to an edge
+pub record Capacities (g : Shape) (j : Job) (w : List ℕ) : Type 0 where
+  pub caps : (e l : ℕ) → e < g .e → 1 ≤ l → l ≤ g .k → getD w (e * g .k + (l - 1)) 0 ≡ capacity j e l
+
+pub record SoFar (g : Shape) (j : Job) (plan : List (List ℕ)) (w : List ℕ) : Type 0 where
+  pub capacities : Capacities g j w
+  -- the nets on each layer
+  pub loads : (e l : ℕ) → e < g .e → 1 ≤ l → l ≤ g .k → getD w (loadsAt g + e * g .k + (l - 1)) 0 ≡ placed j plan e l
+  -- the overflow left: o(e) less what the layers have used
+  pub left : (e : ℕ) → e < g .e → getD w (demandAt g + e) 0 + sumOver (layersOf j e) (capacity j e) (placed j plan e) ≡ flatOverflow j e
