@@ -1,0 +1,134 @@
+-- A turn of the loop over the pins of a net that is read again.
+-- Assumes nothing.
+use mathlib.Core.Bool.{Bool, true, false, cond}
+use mathlib.Core.List.{List, [], _∷_, map}
+use mathlib.Core.Option.{Option, none, some}
+use mathlib.Core.Path.{_≡_, refl, sym, ap, ap₂, _∙_}
+use Prim.Native.Nat.{ℕ, _+_, _-_, _*_, _≤_, _<_, min}
+use native.Mathlib.Omega.{arith}
+use lib.ListN.{length, drop, length-set}
+use Rattle.layout.specs.declared.Shape.{Shape}
+use Rattle.marks.specs.Marks.{marked, mark, marksAfter, mark-long}
+use Rattle.model.specs.Job.{Pin, Net}
+use Rattle.model.specs.Lists.{all}
+use Rattle.model.specs.Read.{Triple, pinInside, pinAt}
+use Rattle.model.specs.Walk.{lowestFrom}
+use Rattle.net.specs.Table.{PinsAt}
+use Rattle.scan.specs.Inside.{inside-is, false-true}
+use Rattle.scan.specs.Lines.{Lined, consTo}
+use Rattle.scan.specs.Pins.{triple, pinsOf, pin-is}
+use Rattle.text.specs.Entries.{pinEntryAt}
+use Rattle.text.specs.declared.Entry.the-variants.{More, Last, Bad}
+use Rattle.netread.specs.Pins.{PinsThere, afterPins, noTile, PinsMarked, PinsLeft}
+
+-- ---- lines
+
+-- the entries of a line, and the text after it
+entriesOf : Lined → List Triple
+entriesOf none = []
+entriesOf (some c) = c .0
+
+restOf : Lined → List ℕ
+restOf none = []
+restOf (some c) = c .1
+
+some-none : {A : Type 0} (c : List Triple × List ℕ) → _≡_ {A = Lined} (some c) none → A
+some-none c e = absurd (let y : _≡_ {A = ℕ} 0 1 = cc in omega arith)
+
+-- an entry in front: the entries are it and those left
+front : (t : Triple) (r : Lined) (es : List Triple) (rest : List ℕ) → _≡_ {A = Lined} (some (es, rest)) (consTo (some t) r)
+    → (us : List Triple) × (r ≡ some (us, rest)) × (es ≡ t ∷ us)
+unfolding entriesOf restOf
+front t none es rest e = some-none (es, rest) e
+front t (some c) es rest e = (c .0, ap (λ (x : List ℕ). some (c .0, x)) (sym (ap restOf e)), ap entriesOf e)
+
+one-line : (es us : List Triple) (r q : List ℕ) → _≡_ {A = Lined} (some (es, r)) (some (us, q)) → es ≡ us
+unfolding entriesOf
+one-line es us r q e = ap entriesOf e
+
+-- the first passes, and the others
+all-first : (q : Triple → Bool) (t : Triple) (ts : List Triple) → all q (t ∷ ts) ≡ true → (q t ≡ true) × (all q ts ≡ true)
+all-first q t ts e = go (q t) e
+  where
+    go : (p : Bool) → cond p (all q ts) false ≡ true → (p ≡ true) × (all q ts ≡ true)
+    go true h = (refl, h)
+    go false h = absurd (false-true h)
+
+pub after-long : (n : ℕ) (a : List ℕ) (t i : ℕ) → length (marksAfter n a t i) ≡ length a
+unfolding marksAfter
+after-long n a t i = go (marked n a t i)
+  where
+    go : (q : Bool) → length (cond q a (mark n a t i)) ≡ length a
+    go true = refl
+    go false = mark-long n a t i
+
+-- ---- the turns
+
+module _ (s : List ℕ) (g : Shape) (n at : ℕ) where
+  pub left-start : (a : List ℕ) → PinsThere s g at → PinsLeft s g n at at a a noTile
+  left-start a h = record {
+    entries = h .pins .entries;
+    rest = h .pins .rest;
+    there = h .pins .there;
+    inside = h .pins .inside;
+    long = refl;
+    marks = λ net p. ap (λ (es : List Triple). afterPins n a (map (pinAt (g .w)) es)) (same net p) ∙ ap (afterPins n a) (p .are);
+    lows = λ net p.
+        ap (λ (es : List Triple). lowestFrom noTile (map (λ q. q .tile) (map (pinAt (g .w)) es))) (same net p)
+        ∙ ap (λ (ps : List Pin). lowestFrom noTile (map (λ q. q .tile) ps)) (p .are);
+  }
+    where
+      same : (net : Net) (p : PinsAt s (g .w) (g .h) (g .k) at net) → h .pins .entries ≡ p .entries
+      same net p = one-line (h .pins .entries) (p .entries) (h .pins .rest) (p .rest) (sym (h .pins .there) ∙ p .there)
+
+  module _ (i : ℕ) (a₀ a : List ℕ) (low : ℕ) (left : PinsLeft s g n at i a₀ a low) where
+    pub left-bad : {A : Type 0} → Bad ≡ pinEntryAt s i → A
+    left-bad e = some-none (left .entries, left .rest) (sym (left .there) ∙ pin-is s i Bad e)
+
+    module _ (x y z next : ℕ) where
+      last-only : Last x y z next ≡ pinEntryAt s i → left .entries ≡ triple x y z ∷ []
+      last-only e = one-line (left .entries) (triple x y z ∷ []) (left .rest) (drop next s) (sym (left .there) ∙ pin-is s i (Last x y z next) e)
+
+      pub last-inside : Last x y z next ≡ pinEntryAt s i → (x < g .w) × (y < g .h) × (1 ≤ z) × (z ≤ g .k)
+      last-inside e = inside-is (g .w) (g .h) (g .k) x y z
+          (all-first (pinInside (g .w) (g .h) (g .k)) (triple x y z) [] (ap (all (pinInside (g .w) (g .h) (g .k))) (sym (last-only e)) ∙ left .inside) .0)
+
+      pub left-last : Last x y z next ≡ pinEntryAt s i → (a′ : List ℕ) (r : ℕ) → a′ ≡ marksAfter n a (y * g .w + x) (z - 1) → r ≡ min low (y * g .w + x)
+          → (net : Net) → PinsAt s (g .w) (g .h) (g .k) at net → PinsMarked n net a₀ a′ r
+      left-last e a′ r p q net k = record {
+        marks = p ∙ ap (λ (es : List Triple). afterPins n a (map (pinAt (g .w)) es)) (sym (last-only e)) ∙ left .marks net k;
+        low = q ∙ ap (λ (es : List Triple). lowestFrom low (map (λ (m : Pin). m .tile) (map (pinAt (g .w)) es))) (sym (last-only e)) ∙ left .lows net k;
+        long = ap length p ∙ after-long n a (y * g .w + x) (z - 1) ∙ left .long;
+      }
+
+      more-front : More x y z next ≡ pinEntryAt s i → (us : List Triple) × (pinsOf (drop next s) ≡ some (us, left .rest)) × (left .entries ≡ triple x y z ∷ us)
+      more-front e = front (triple x y z) (pinsOf (drop next s)) (left .entries) (left .rest) (sym (left .there) ∙ pin-is s i (More x y z next) e .0)
+
+      more-passes : (e : More x y z next ≡ pinEntryAt s i) → (pinInside (g .w) (g .h) (g .k) (triple x y z) ≡ true) × (all (pinInside (g .w) (g .h) (g .k)) (more-front e .0) ≡ true)
+      more-passes e = all-first (pinInside (g .w) (g .h) (g .k)) (triple x y z) (more-front e .0) (ap (all (pinInside (g .w) (g .h) (g .k))) (sym (more-front e .2)) ∙ left .inside)
+
+      pub more-inside : More x y z next ≡ pinEntryAt s i → (x < g .w) × (y < g .h) × (1 ≤ z) × (z ≤ g .k)
+      more-inside e = inside-is (g .w) (g .h) (g .k) x y z (more-passes e .0)
+
+      pub left-more : More x y z next ≡ pinEntryAt s i → (a′ : List ℕ) (r : ℕ) → a′ ≡ marksAfter n a (y * g .w + x) (z - 1) → r ≡ min low (y * g .w + x)
+          → PinsLeft s g n at next a₀ a′ r
+      left-more e a′ r p q =
+          let f = more-front e in
+          record {
+            entries = f .0;
+            rest = left .rest;
+            there = f .1;
+            inside = more-passes e .1;
+            long = ap length p ∙ after-long n a (y * g .w + x) (z - 1) ∙ left .long;
+            marks = λ net k.
+                ap (λ (b : List ℕ). afterPins n b (map (pinAt (g .w)) (f .0))) p
+                ∙ ap (λ (es : List Triple). afterPins n a (map (pinAt (g .w)) es)) (sym (f .2))
+                ∙ left .marks net k;
+            lows = λ net k.
+                ap (λ (b : ℕ). lowestFrom b (map (λ (m : Pin). m .tile) (map (pinAt (g .w)) (f .0)))) q
+                ∙ ap (λ (es : List Triple). lowestFrom low (map (λ (m : Pin). m .tile) (map (pinAt (g .w)) es))) (sym (f .2))
+                ∙ left .lows net k;
+          }
+
+      pub more-place : More x y z next ≡ pinEntryAt s i → (i < next) × (next ≤ length s)
+      more-place e = (pin-is s i (More x y z next) e .1, pin-is s i (More x y z next) e .2)
