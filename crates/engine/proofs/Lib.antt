@@ -1,0 +1,5 @@
+mod CombinationCost
+mod Rows
+mod Layers
+mod Table
+mod Best

@@ -1,0 +1,5 @@
+pub mod Computed
+pub mod Mask
+pub mod Rows
+pub mod Layers
+pub mod Net
