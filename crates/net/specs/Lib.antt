@@ -1,3 +1,4 @@
 pub mod AtHand
 pub mod SoFar
 pub mod Table
+pub mod Checked
