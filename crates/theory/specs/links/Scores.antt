@@ -6,9 +6,9 @@ use mathlib.Core.Bool.{Bool, true, false, cond}
 use mathlib.Core.Logic.{_⊎_, inl, inr, ⊎-elim, _≢_}
 use Prim.Native.Nat.{ℕ, suc, _+_, _-_, _*_, _^_, _≤_, _<_}
 use native.Mathlib.Omega.{arith}
-use native.Mathlib.Nat.{mul-le-mul, mul-le-mul-right}
+use native.Mathlib.Nat.{mul-le-mul}
 use lib.Dec.{eqb}
-use lib.ListN.{length, getD, length-map}
+use lib.ListN.{length, length-map}
 use Rattle.model.specs.Lists.{any, twice, upFrom}
 use Rattle.model.specs.Job.{Pin, Net, Job, netCount, tileCount, netOf}
 use Rattle.model.specs.Limits.{mostSide, mostLayers, mostNets}
@@ -103,11 +103,12 @@ module _ (lent : Lent) (j : Job) (acc : Accepted lent j) where
   pub tiles-few : tileCount j ≤ mostSide * mostSide
   tiles-few = mul-le-mul (acc .width .1) (acc .height .1)
 
-  demands-few : (n : Net) → NetOk (j .width) (j .height) (j .layers) n → length (n .edges) * netCount j ≤ 4_095 * 4_096
+  demands-few : (n : Net) → NetOk (j .width) (j .height) (j .layers) n → length (n .edges) * netCount j ≤ (mostSide * mostSide - 1) * mostNets
   demands-few n ok =
-      let d : length (n .edges) ≤ 4_095 = omega (arith, edges-few j (acc .width .0) (acc .height .0) n ok, tiles-few) in
+      let d : length (n .edges) ≤ mostSide * mostSide - 1 = omega (arith, edges-few j (acc .width .0) (acc .height .0) n ok, tiles-few) in
       mul-le-mul d (acc .net-count)
 
+  -- every part of the score at its largest: 255,000 × (1 + 32,768 + 4,095 × 4,096)
   pub score-below : (n : Net) → NetOk (j .width) (j .height) (j .layers) n → score j n < 2 ^ 42
   score-below n ok =
       omega (
