@@ -1,0 +1,156 @@
+"""Texts whose outcome document 01 itself gives, in its bench jobs or by its words on what comes first.
+
+They hold reference.py to document 01 and are then checked like all other texts. `said` is what document 01 says of the outcome: a
+refusal as (number, line), or the fields of an accepted outcome that it names.
+"""
+
+from collections import namedtuple
+
+from reference import PROGRAM_LENT, Lent
+
+Bench = namedtuple("Bench", "name text lent said")
+
+ROOMY = Lent(100_000, 4_096, 1_000, 1_000)
+
+
+def header_lines(width, height, layers, alpha, beta, gamma, capacities):
+    """The lines before `nets`; `capacities` has the `east` and the `north` list of each layer."""
+    lines = [f"width={width}", f"height={height}", f"layers={layers}", f"alpha={alpha}", f"beta={beta}", f"gamma={gamma}"]
+    return lines + [f"{key}={numbers}" for layer in capacities for key, numbers in zip(("east", "north"), layer)]
+
+
+def net_lines(*pins_and_edges):
+    """The lines from `nets` on."""
+    lines = [f"nets={len(pins_and_edges)}"]
+    for number, (pins, edges) in enumerate(pins_and_edges, 1):
+        lines += [f"net={number}", f"pins={pins}", f"edges={edges}"]
+    return lines
+
+
+def text_of(lines):
+    return "".join(line + "\n" for line in lines).encode()
+
+
+def pair(one, two, *pins):
+    """C5 to C7: "W = 2, H = 1, K = 2, and each net has a pin in both tiles", with one edge between."""
+    return text_of(header_lines(2, 1, 2, 1, 1, 0, [(one, ""), (two, "")]) + net_lines(*[(each, "0,0,e") for each in pins]))
+
+
+def square(edges, pins="0,0,1;1,0,1;0,1,1;1,1,1"):
+    """Four tiles with one net, a pin in each; its lines are the 12th to the 14th."""
+    return text_of(header_lines(2, 2, 2, 1, 1, 0, [("1,1", "1,1")] * 2) + net_lines((pins, edges)))
+
+
+def line_of_tiles(width, capacity="1"):
+    """A row of tiles with no net."""
+    east = ",".join([capacity] * (width - 1))
+    return text_of(header_lines(width, 1, 2, 1, 1, 0, [(east, "")] * 2) + net_lines())
+
+
+def one_tile(layers):
+    return text_of(header_lines(1, 1, layers, 1, 1, 0, [("", "")] * layers) + net_lines())
+
+
+C1 = text_of(header_lines(3, 1, 2, 1, 1, 0, [("1,1", "")] * 2)
+             + net_lines(("0,0,1;2,0,1", "0,0,e;1,0,e"), ("0,0,1;1,0,1", "0,0,e")))
+C1_PRINT = """order=2,1
+net=1
+vias=2
+layers=2,1
+net=2
+vias=0
+layers=1
+total_vias=2
+total_overflow=0
+max_overflow=0
+"""
+C3_PRINT = "order=\ntotal_vias=0\ntotal_overflow=0\nmax_overflow=0\n"
+
+# "Bench jobs"
+JOBS = [
+    ("C1", C1, {"order": [(2, 3000), (1, 2500)], "text": C1_PRINT}),
+    ("C2", b"", (2, 1)),
+    ("C3", one_tile(2), {"text": C3_PRINT}),
+    ("C4", text_of(header_lines(1, 1, 4, 1, 1, 0, [("", "")] * 4) + net_lines(("0,0,1;0,0,4", ""))), {"vias": 3, "plan": [[]]}),
+    ("C5", pair("1", "0", "0,0,2;1,0,2"), {"plan": [[1]], "vias": 2}),
+    ("C6", pair("1", "0", *["0,0,2;1,0,2"] * 2), {"plan": [[2], [1]], "vias": 2, "total": 1, "maximum": 1}),
+    ("C7", pair("0", "0", *["0,0,1;1,0,1"] * 3), {"plan": [[1], [1], [2]], "total": 3, "maximum": 2}),
+    ("C8, first term", text_of(header_lines(4, 1, 2, 1, 0, 0, [("1,1,1", "")] * 2) + net_lines(("0,0,1", "0,0,e;1,0,e;2,0,e"))),
+     {"order": [(1, 333)]}),
+    ("C8, third term", text_of(header_lines(2, 1, 2, 0, 0, 1, [("1", ""), ("2", "")]) + net_lines(*[("0,0,1", "0,0,e")] * 2)),
+     {"order": [(1, 666), (2, 666)]}),
+    ("C9", text_of(header_lines(2, 1, 2, 0, 0, 1, [("0", "")] * 2) + net_lines(*[("0,0,1", "0,0,e")] * 3)),
+     {"order": [(1, 3000), (2, 3000), (3, 3000)]}),
+    ("C10, ring", square("0,0,e;0,0,n;1,0,n;0,1,e"), (7, 14)),
+    ("C10, without south", square("0,0,n;1,0,n;0,1,e"), {}),
+    ("C10, without west", square("0,0,e;1,0,n;0,1,e"), {}),
+    ("C10, without east", square("0,0,e;0,0,n;0,1,e"), {}),
+    ("C10, without north", square("0,0,e;0,0,n;1,0,n"), {}),
+    ("width 64", line_of_tiles(64), {}),
+    ("width 65", line_of_tiles(65), (3, 1)),
+    ("layers 2", one_tile(2), {}),
+    ("layers 8", one_tile(8), {}),
+    ("layers 1", one_tile(1), (3, 3)),
+    ("layers 9", one_tile(9), (3, 3)),
+    ("capacity 255", line_of_tiles(2, "255"), {}),
+    ("capacity 256", line_of_tiles(2, "256"), (3, 7)),
+    ("pin off the edges", square("0,0,e"), (8, 14)),
+]
+
+
+def replaced(old, new):
+    """C1 with a line changed."""
+    assert C1.count(old) == 1
+    return C1.replace(old, new)
+
+
+# "On one line the lower number wins." The reading place moves forward, so an earlier line wins over a later one. "9 is found
+# right after line 3, 10 after the `nets` line, 11 after the whole text."
+FIRST_FAULTS = [
+    ("a line without its byte 10 is no line: 2 before 3", b"width=65", ROOMY, (2, 1)),
+    ("width 2 before its range", b"width=000065\n", ROOMY, (2, 1)),
+    ("six digits are no number", replaced(b"alpha=1", b"alpha=100000"), ROOMY, (2, 4)),
+    ("five digits are one", replaced(b"alpha=1", b"alpha=99999"), ROOMY, (3, 4)),
+    ("3 before 9", one_tile(9), Lent(0, 0, 0, 0), (3, 3)),
+    ("9 before line 4", replaced(b"alpha=1", b"alpha="), Lent(0, 0, 0, 0), (9, 3)),
+    ("line 2 before 9", replaced(b"height=1", b"height=0"), Lent(0, 0, 0, 0), (3, 2)),
+    ("list length before range", replaced(b"east=1,1\nnorth=\nnets", b"east=256\nnorth=\nnets"), ROOMY, (2, 9)),
+    ("form before range", replaced(b"east=1,1\nnorth=\nnets", b"east=256,01\nnorth=\nnets"), ROOMY, (2, 9)),
+    ("nets: range before 10", replaced(b"nets=2", b"nets=4097"), Lent(100_000, 0, 0, 0), (3, 11)),
+    ("nets: 10 before line 12", replaced(b"nets=2\nnet=1", b"nets=2\nnet=3"), Lent(100_000, 1, 0, 0), (10, 11)),
+    ("nets 4096, and their lines are missing", C1[:C1.index(b"nets")] + b"nets=4096\n", ROOMY, (2, 12)),
+    ("net 0: 4 and not 3", replaced(b"net=1", b"net=0"), ROOMY, (4, 12)),
+    ("net 99999: 4 and not 3", replaced(b"net=2", b"net=99999"), ROOMY, (4, 15)),
+    ("net 02: 2", replaced(b"net=2", b"net=02"), ROOMY, (2, 15)),
+    ("pins: form before range", square("", "2,0,1;0,0"), ROOMY, (2, 13)),
+    ("pins: range before twice", square("", "0,0,3;0,0,3"), ROOMY, (3, 13)),
+    ("pins: none", square("", ""), ROOMY, (2, 13)),
+    ("pins: layer 0", square("", "0,0,0"), ROOMY, (3, 13)),
+    ("pins: twice, not side by side", square("", "0,0,1;0,0,2;0,0,1"), ROOMY, (5, 13)),
+    ("pins before edges", square("0,0,x", "0,0,1;0,0,1"), ROOMY, (5, 13)),
+    ("edges: form before leaving the grid", square("1,0,e;0,0,w"), ROOMY, (2, 14)),
+    ("edges: leaving the grid before twice", square("1,0,e;1,0,e"), ROOMY, (3, 14)),
+    ("edges: leaving the grid to the north", square("0,1,n"), ROOMY, (3, 14)),
+    ("edges: twice before a ring", square("0,0,e;0,0,n;1,0,n;0,1,e;0,0,e"), ROOMY, (6, 14)),
+    ("edges: a ring apart from the pins", text_of(
+        header_lines(3, 2, 2, 1, 1, 0, [("1,1,1,1", "1,1,1")] * 2)
+        + net_lines(("0,0,1", "1,0,e;1,0,n;2,0,n;1,1,e"))), ROOMY, (7, 14)),
+    ("edges: an edge apart from the first pin", square("0,1,e", "0,0,1"), ROOMY, (8, 14)),
+    ("pins in two tiles and no edge", square("", "0,0,1;1,0,1"), ROOMY, (8, 14)),
+    ("8 before 11", square("", "0,0,1;1,0,1"), Lent(100_000, 4, 0, 0), (8, 14)),
+    ("text after the last line before 11", C1 + b"\n", Lent(100_000, 4, 0, 0), (2, 18)),
+    ("answer list too short", C1, Lent(100_000, 2, 2, None), (11, 17)),
+    ("print buffer too short", C1, Lent(100_000, 2, 3, 389), (11, 17)),
+    ("just enough", C1, Lent(2 * 2 * 2 + 2 * 2 + 32 * 3, 2, 3, 390), {"vias": 2}),
+    ("one working number short", C1, Lent(107, 2, 3, 390), (9, 3)),
+]
+
+BENCH = ([Bench(name, text, PROGRAM_LENT, said) for name, text, said in JOBS]
+         + [Bench(name, text, lent, said) for name, text, lent, said in FIRST_FAULTS])
+
+
+def as_said(bench, result):
+    """Whether an outcome is what document 01 says."""
+    if isinstance(bench.said, tuple):
+        return tuple(result) == bench.said
+    return hasattr(result, "plan") and all(getattr(result, field) == value for field, value in bench.said.items())
