@@ -153,9 +153,8 @@ def random_weight(rng):
     return rng.choice([0, 0, 0, 1, 1, 2, 3, 7, 100, 254, 255, rng.randint(0, 255)])
 
 
-def draft_on(rng, width, height, net_count, most):
+def draft_on(rng, width, height, layers, net_count, most):
     """A job with so many nets on such a grid; its capacities are at most `most`, which is small, so that edges overflow."""
-    layers = rng.choice([2, 2, 2, 3, 3, 3, 4, 4, rng.randint(5, 8)])
     nets = [random_net(rng, width, height, layers) for _ in range(net_count)]
     draft = Draft(width, height, layers, [random_weight(rng) for _ in range(3)], nets)
     for capacities in draft.east + draft.north:
@@ -163,10 +162,15 @@ def draft_on(rng, width, height, net_count, most):
     return draft
 
 
+def random_layers(rng):
+    """The number of layers: mostly few."""
+    return rng.choice([2, 2, 2, 3, 3, 3, 4, 4, rng.randint(5, 8)])
+
+
 def random_draft(rng):
     """A small job."""
     net_count = rng.choice([0, 1, 1, 2, 2, 3, 3, 4, 4, 4])
-    return draft_on(rng, rng.randint(1, 4), rng.randint(1, 3), net_count, rng.choice([0, 1, 1, 1, 2, 3]))
+    return draft_on(rng, rng.randint(1, 4), rng.randint(1, 3), random_layers(rng), net_count, rng.choice([0, 1, 1, 1, 2, 3]))
 
 
 def draft_with(rng, fits):
@@ -209,7 +213,17 @@ def plain(rng):
 def crowd(rng):
     """Many nets on few tiles."""
     width, height = rng.choice([(2, 1), (1, 2), (3, 1), (2, 2), (2, 2)])
-    draft = draft_on(rng, width, height, rng.randint(3, 7), rng.choice([0, 1, 1, 2]))
+    draft = draft_on(rng, width, height, random_layers(rng), rng.randint(3, 7), rng.choice([0, 1, 1, 2]))
+    return draft.text(), enough(rng, draft)
+
+
+def tree(rng):
+    """One or two nets of many edges, whose walk has branches at more than one tile."""
+    draft = draft_on(rng, rng.randint(3, 4), 3, 2, rng.randint(1, 2), rng.choice([0, 1, 2]))
+    for net in draft.nets:
+        net[1][:] = random_tree(rng, draft.width, draft.height, MOST_EDGES[2])[1]
+        x, y, _ = net[1][0]
+        net[0][:] = [(x, y, rng.randint(1, 2))]
     return draft.text(), enough(rng, draft)
 
 
@@ -395,8 +409,8 @@ def two_faults(rng):
 
 
 # The ways, taken in turn. Plain jobs are many, since their order lists, plans and prints are compared.
-WAYS = [plain, cut, crowd, short_lent, changed_byte, program_job, changed_line, ring, plain, changed_number, apart, crowd,
-        range_end, out_of_turn, program_job, changed_pins, short_at_the_end, plain, changed_edges, apart, crowd, text_after,
+WAYS = [plain, cut, crowd, short_lent, changed_byte, program_job, changed_line, ring, tree, changed_number, apart, crowd,
+        range_end, out_of_turn, program_job, changed_pins, short_at_the_end, plain, changed_edges, apart, tree, text_after,
         changed_capacities, plain, two_faults, ring]
 
 

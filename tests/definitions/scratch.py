@@ -12,11 +12,11 @@ from reference import Refusal, east_edges, north_edges
 # The definitions that the rows name, by module of crates/model/specs.
 NAMES = {
     "Text": ["bytes"],
-    "Input": ["Job"],
+    "Job": ["Job"],
     "Read": ["Lent", "Result", "refused", "found", "read"],
     "Score": ["Entry"],
     "Walk": ["walk"],
-    "Answer": ["Told", "Outcome", "refusal", "accepted", "outcome"],
+    "Calls": ["Told", "Outcome", "refusal", "accepted", "outcome"],
     "Program": ["program"],
 }
 
