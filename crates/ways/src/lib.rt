@@ -1,0 +1,45 @@
+// The edges of the net at hand, marked by tile: the way on where an edge starts, and the way back where it ends.
+use marks::Put;
+ghost use mathlib.Core.Path.{_≡_};
+ghost use Prim.Native.Nat.{_+_, _<_, _≤_};
+ghost use lib.ListN.{length};
+ghost use Rattle.marks.specs.Marks.{marksAfter};
+ghost use Rattle.ways.specs.Ends.{firstMark, endsOf, endsAfter};
+
+// What marking an edge found: it is marked already, or how many of its two tiles had no mark.
+pub enum Ends {
+    Twice,
+    New(usize),
+}
+
+// The way back, marked in the tile where an edge ends: 1 if that tile had no mark.
+fn mark_back(a: &mut [u32], stamp: u32, there: usize, d: u32) -> usize
+    requires { ⌜ (there < length (now a)) × (d ≤ 1) × (stamp ≤ 8192) ⌝ }
+    ensures { λ r. ⌜ r ≡ firstMark stamp (now (a .entry)) there ⌝ }
+    ensures { λ _. ⌜ now (a .exit) ≡ marksAfter stamp (now (a .entry)) there (10 + d) ⌝ }
+{
+    match marks::set_mark(a, stamp, there, 10 + d) {
+        Put::Twice => 0,
+        Put::Fresh => 1,
+        Put::Known => 0,
+    }
+}
+
+// Marks an edge in its two tiles: way d, 0 for east and 1 for north, where it starts, and where it ends the way back, d + 2.
+pub fn mark_ends(a: &mut [u32], stamp: u32, here: usize, there: usize, d: u32) -> Ends
+    requires { ⌜ (here < length (now a)) × (there < length (now a)) × (d ≤ 1) × (stamp ≤ 8192) ⌝ }
+    ensures { λ r. ⌜ r ≡ endsOf stamp (now (a .entry)) here there d ⌝ }
+    ensures { λ _. ⌜ now (a .exit) ≡ endsAfter stamp (now (a .entry)) here there d ⌝ }
+{
+    match marks::set_mark(a, stamp, here, 8 + d) {
+        Put::Twice => Ends::Twice,
+        Put::Fresh => {
+            let k = mark_back(a, stamp, there, d);
+            Ends::New(1 + k)
+        }
+        Put::Known => {
+            let k = mark_back(a, stamp, there, d);
+            Ends::New(k)
+        }
+    }
+}
