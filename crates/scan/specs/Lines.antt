@@ -49,11 +49,11 @@ oneTo none r = none
 oneTo (some e) r = some (e ∷ [], r)
 
 -- split has a piece always
-abbrev Some : List (List ℕ) → Type 0
+abbrev pub Some : List (List ℕ) → Type 0
 Some [] = ⊥
 Some (p ∷ ps) = Unit {0}
 
-split-some : (m : ℕ) (v : List ℕ) → Some (split m v)
+pub split-some : (m : ℕ) (v : List ℕ) → Some (split m v)
 split-some m [] = tt
 split-some m (b ∷ bs) = go (eqb b m) (split m bs) (split-some m bs)
   where
@@ -151,7 +151,7 @@ unfoldable pub undigits : List ℕ → List ℕ
 undigits [] = []
 undigits (b ∷ t) = cond (isDigit b) (undigits t) (b ∷ t)
 
-digit-not : (b k : ℕ) → isDigit b ≡ true → isDigit k ≡ false → b ≡ k → ⊥
+pub digit-not : (b k : ℕ) → isDigit b ≡ true → isDigit k ≡ false → b ≡ k → ⊥
 digit-not b k e h q = not-same (sym e ∙ ap isDigit q ∙ h)
   where
     not-same : true ≡ false → ⊥

@@ -79,7 +79,7 @@ module _ (f g : Judge) (ds : List ℕ) where
 not-value : (v n : ℕ) → Malformed ≡ Value v n → ⊥
 not-value v n e = let y : _≡_ {A = ℕ} 0 1 = cc in omega arith
 
-number-at : (s : List ℕ) (at : ℕ) → numberAt s at ≡ numbered (at + length (run s at)) (number (run s at))
+pub number-at : (s : List ℕ) (at : ℕ) → numberAt s at ≡ numbered (at + length (run s at)) (number (run s at))
 unfolding numberAt
 number-at s at = refl
 
@@ -99,7 +99,7 @@ number-not s at e = go (number (run s at)) (sym (number-at s at) ∙ e)
 
 -- ---- the line from a place on
 
-after : (s : List ℕ) (at : ℕ) → undigits (drop at s) ≡ drop (at + length (run s at)) s
+pub after : (s : List ℕ) (at : ℕ) → undigits (drop at s) ≡ drop (at + length (run s at)) s
 after s at = undigits-drop (drop at s) ∙ drop-drop (length (run s at)) at s
 
 no-digit : (s : List ℕ) (at : ℕ) → NoDigit (drop (at + length (run s at)) s)

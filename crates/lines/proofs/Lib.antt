@@ -1,0 +1,6 @@
+mod Ends
+mod Runs
+mod Places
+mod Keys
+mod Ranges
+mod Steps

@@ -1,0 +1,56 @@
+-- The definitions' lines, with the bytes of the key in place of its quoted text.
+-- Assumes nothing.
+use mathlib.Core.Path.{_≡_, refl}
+use mathlib.Core.Bool.{Bool, _&&_, not}
+use mathlib.Core.List.{List, [], _∷_, _++_}
+use Prim.Native.Nat.{ℕ, suc}
+use Prim.Native.String.{String}
+use lib.Dec.{leb, eqb}
+use lib.ListN.{length}
+use Rattle.model.specs.Limits.{mostCapacity}
+use Rattle.model.specs.Lists.{all}
+use Rattle.model.specs.Text.{bytes, cutLine, number, numbers}
+use Rattle.model.specs.Read.{Place, Reading, next, _>>=_, _>>_, give, form, need, valueIn, line, numberLine, ranged, capacityLine}
+
+-- the key holds no byte 10
+abbrev pub oneLine : List ℕ → Bool
+oneLine key = all (λ b. not (eqb b 10)) key
+
+-- the key with its `=`
+abbrev pub keyBytes : String → List ℕ
+keyBytes key = bytes key ++ (61 ∷ [])
+
+abbrev pub lineBy : List ℕ → Reading (List ℕ)
+lineBy key p = valueIn (suc (p .line)) (cutLine (p .rest)) key
+
+unfoldable pub numberLineBy : List ℕ → Reading ℕ
+numberLineBy key = do
+  v ← lineBy key
+  form (number v)
+
+unfoldable pub rangedBy : List ℕ → ℕ → ℕ → Reading ℕ
+rangedBy key low high = do
+  n ← numberLineBy key
+  need 3 (leb low n && leb n high)
+  give n
+
+unfoldable pub capacityLineBy : List ℕ → ℕ → Reading (List ℕ)
+capacityLineBy key size = do
+  v ← lineBy key
+  cs ← form (numbers v)
+  need 2 (eqb (length cs) size)
+  need 3 (all (λ c. leb c mostCapacity) cs)
+  give cs
+
+-- these are the definitions' lines
+pub number-line-is : (key : String) (p : Place) → numberLine key p ≡ numberLineBy (keyBytes key) p
+unfolding line numberLineBy
+number-line-is key p = refl
+
+pub ranged-is : (key : String) (low high : ℕ) (p : Place) → ranged key low high p ≡ rangedBy (keyBytes key) low high p
+unfolding line ranged numberLineBy rangedBy
+ranged-is key low high p = refl
+
+pub capacity-line-is : (key : String) (size : ℕ) (p : Place) → capacityLine key size p ≡ capacityLineBy (keyBytes key) size p
+unfolding line capacityLine capacityLineBy
+capacity-line-is key size p = refl

@@ -1,0 +1,4 @@
+pub mod Keyed
+pub mod Entries
+pub mod Spread
+pub mod Told

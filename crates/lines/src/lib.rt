@@ -1,0 +1,196 @@
+// Lines with one number, and lines of capacities.
+use text::Cursor;
+use text::Fault;
+use text::Numeral;
+use text::Refusal;
+ghost use mathlib.Core.Path.{_≡_};
+ghost use mathlib.Core.Bool.{true, _&&_};
+ghost use Prim.Native.Nat.{_+_, _-_, _<_, _≤_};
+ghost use lib.Dec.{leb};
+ghost use lib.ListN.{length};
+ghost use Rattle.model.specs.Limits.{mostCapacity};
+ghost use Rattle.text.specs.Refusals.{placeOf};
+ghost use Rattle.lines.specs.Keyed.{oneLine, numberLineBy, rangedBy, capacityLineBy};
+ghost use Rattle.lines.specs.Spread.{kept, spread, Room};
+ghost use Rattle.lines.specs.Told.{fieldTold, fieldIn, listTold, listIn, mapped};
+ghost use Rattle.lines.specs.Entries.{endedAt, ender, listAt, listLine, finish};
+
+// A number and the place of the next line.
+pub enum Field {
+    Value(usize, Cursor),
+    Refused(Refusal),
+}
+
+// A list that was read and stored: the place of the next line.
+pub enum Listed {
+    Next(Cursor),
+    Refused(Refusal),
+}
+
+// The number at `at`, the byte `end` behind it, and the place after that.
+fn ended(s: &[u8], at: usize, end: u8) -> Numeral
+    requires { ⌜ 0 < end ⌝ }
+    ensures { λ r. ⌜ r ≡ endedAt (now (s .entry)) at end ⌝ }
+{
+    match text::number(s, at) {
+        Numeral::Malformed => Numeral::Malformed,
+        Numeral::Value(v, next) => {
+            if s.len() <= next {
+                return Numeral::Malformed;
+            }
+            if s[next] == end {
+                Numeral::Value(v, next + 1)
+            } else {
+                Numeral::Malformed
+            }
+        }
+    }
+}
+
+// A line with one number.
+pub fn number_line(s: &[u8], c: Cursor, key: &[u8]) -> Field
+    requires { ⌜ (c .at ≤ length (now s)) × (c .line < 1048576) × (oneLine (now key) ≡ true) ⌝ }
+    ensures { λ r. ⌜ fieldTold (now (s .entry)) r ≡ numberLineBy (now (key .entry)) (placeOf (now (s .entry)) c) ⌝ }
+    ensures { λ r. ⌜ fieldIn (length (now (s .entry))) (c .line + 1) r ⌝ }
+{
+    let line = c.line + 1;
+    if !text::key_at(s, c.at, key) {
+        return Field::Refused(Refusal::Line(Fault::Form, line));
+    }
+    let from = c.at + key.len();
+    match ended(s, from, 10) {
+        Numeral::Malformed => Field::Refused(Refusal::Line(Fault::Form, line)),
+        Numeral::Value(v, next) => Field::Value(v, Cursor { at: next, line }),
+    }
+}
+
+// A line with one number from `low` to `high`.
+pub fn ranged(s: &[u8], c: Cursor, key: &[u8], low: usize, high: usize) -> Field
+    requires { ⌜ (c .at ≤ length (now s)) × (c .line < 1048576) × (oneLine (now key) ≡ true) ⌝ }
+    ensures { λ r. ⌜ fieldTold (now (s .entry)) r ≡ rangedBy (now (key .entry)) low high (placeOf (now (s .entry)) c) ⌝ }
+    ensures { λ r. ⌜ fieldIn (length (now (s .entry))) (c .line + 1) r ⌝ }
+{
+    match number_line(s, c, key) {
+        Field::Refused(r) => Field::Refused(r),
+        Field::Value(v, d) => {
+            if v < low {
+                return Field::Refused(Refusal::Line(Fault::Range, d.line));
+            }
+            if high < v {
+                return Field::Refused(Refusal::Line(Fault::Range, d.line));
+            }
+            Field::Value(v, d)
+        }
+    }
+}
+
+// ---- capacities
+
+// One capacity is stored, where it is in its range; whether it and all before it are.
+fn put(w: &mut [u32], to: usize, v: usize, inside: bool) -> bool
+    requires { ⌜ to < length (now w) ⌝ }
+    ensures { λ r. ⌜ r ≡ (inside && leb v mostCapacity) ⌝ }
+    ensures { λ _. ⌜ now (w .exit) ≡ kept (now (w .entry)) to v ⌝ }
+{
+    if 255 < v {
+        return false;
+    }
+    w[to] = v as u32;
+    inside
+}
+
+// The byte behind a number of which `left` are left, it among them.
+fn end_byte(left: usize) -> u8
+    requires { ⌜ 0 < left ⌝ }
+    ensures { λ r. ⌜ r ≡ ender (left - 1) ⌝ }
+    ensures { λ r. ⌜ 0 < r ⌝ }
+{
+    if left == 1 { 10 } else { 44 }
+}
+
+// `count` capacities from `at` on, on line `line`: the first is stored at `first`, and each other `k` places after the one before.
+fn entries(
+    s: &[u8],
+    at: usize,
+    line: usize,
+    w: &mut [u32],
+    first: usize,
+    k: usize,
+    count: usize,
+) -> Listed
+    requires { ⌜ at ≤ length (now s) ⌝ }
+    requires { ⌜ Room k first count (length (now w)) ⌝ }
+    ensures { λ r. ⌜ listTold (now (s .entry)) (now (w .exit)) r ≡ finish k line true (now (w .entry)) first (listAt count (now (s .entry)) at) ⌝ }
+    ensures { λ r. ⌜ listIn (length (now (s .entry))) line r ⌝ }
+    ensures { λ _. ⌜ length (now (w .exit)) ≡ length (now (w .entry)) ⌝ }
+{
+    let mut i = at;
+    let mut to = first;
+    let mut left = count;
+    let mut inside = true;
+    while 0 < left {
+        let Numeral::Value(v, next) = ended(s, i, end_byte(left)) else {
+            return Listed::Refused(Refusal::Line(Fault::Form, line));
+        };
+        inside = put(w, to, v, inside);
+        i = next;
+        to += k;
+        left -= 1;
+    }
+    if inside {
+        return Listed::Next(Cursor { at: i, line });
+    }
+    Listed::Refused(Refusal::Line(Fault::Range, line))
+}
+
+// The same from `at` on up to the line's end, where `count` may be 0: then the value is empty.
+fn list(
+    s: &[u8],
+    at: usize,
+    line: usize,
+    w: &mut [u32],
+    first: usize,
+    k: usize,
+    count: usize,
+) -> Listed
+    requires { ⌜ at ≤ length (now s) ⌝ }
+    requires { ⌜ Room k first count (length (now w)) ⌝ }
+    ensures { λ r. ⌜ listTold (now (s .entry)) (now (w .exit)) r ≡ finish k line true (now (w .entry)) first (listLine count (now (s .entry)) at) ⌝ }
+    ensures { λ r. ⌜ listIn (length (now (s .entry))) line r ⌝ }
+    ensures { λ _. ⌜ length (now (w .exit)) ≡ length (now (w .entry)) ⌝ }
+{
+    if 0 < count {
+        return entries(s, at, line, w, first, k, count);
+    }
+    if s.len() <= at {
+        return Listed::Refused(Refusal::Line(Fault::Form, line));
+    }
+    if s[at] == 10 {
+        return Listed::Next(Cursor { at: at + 1, line });
+    }
+    Listed::Refused(Refusal::Line(Fault::Form, line))
+}
+
+// A line of `count` capacities: the first is stored at `first`, and each other `k` places after the one before.
+pub fn capacity_line(
+    s: &[u8],
+    c: Cursor,
+    key: &[u8],
+    w: &mut [u32],
+    first: usize,
+    k: usize,
+    count: usize,
+) -> Listed
+    requires { ⌜ (c .at ≤ length (now s)) × (c .line < 1048576) × (oneLine (now key) ≡ true) ⌝ }
+    requires { ⌜ Room k first count (length (now w)) ⌝ }
+    ensures { λ r. ⌜ listTold (now (s .entry)) (now (w .exit)) r ≡ mapped (spread k (now (w .entry)) first) (capacityLineBy (now (key .entry)) count (placeOf (now (s .entry)) c)) ⌝ }
+    ensures { λ r. ⌜ listIn (length (now (s .entry))) (c .line + 1) r ⌝ }
+    ensures { λ _. ⌜ length (now (w .exit)) ≡ length (now (w .entry)) ⌝ }
+{
+    let line = c.line + 1;
+    if !text::key_at(s, c.at, key) {
+        return Listed::Refused(Refusal::Line(Fault::Form, line));
+    }
+    let from = c.at + key.len();
+    list(s, from, line, w, first, k, count)
+}
