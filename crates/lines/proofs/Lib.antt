@@ -2,5 +2,5 @@ mod Ends
 mod Runs
 mod Places
 mod Keys
-mod Ranges
+pub mod Ranges
 mod Steps

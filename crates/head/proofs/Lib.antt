@@ -1,0 +1,2 @@
+mod Stacks
+mod Fields

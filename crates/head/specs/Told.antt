@@ -1,0 +1,102 @@
+-- What the answers of this crate's functions say, in the definitions' words.
+-- Assumes nothing.
+use mathlib.Core.Path.{_≡_}
+use mathlib.Core.List.{List}
+use Prim.Native.Nat.{ℕ, _+_, _*_, _≤_}
+use lib.ListN.{length, drop}
+use Rattle.model.specs.Limits.{mostWeight, mostNets}
+use Rattle.model.specs.Read.{Result, refused, found, workingNeed}
+use Rattle.layout.specs.Shapes.{Shaped}
+use Rattle.layout.specs.declared.Shape.{Shape}
+use Rattle.text.specs.Refusals.{placeOf}
+use Rattle.text.specs.declared.Cursor.{Cursor}
+use Rattle.lines.specs.Told.{refusedBy, After}
+use Rattle.lines.specs.declared.Field.{Field}
+use Rattle.lines.specs.declared.Field.the-variants.{Value, Refused}
+use Rattle.lines.specs.declared.Listed.{Listed}
+use Rattle.lines.specs.declared.Listed.the-variants.{Next, Refused as Unlisted}
+use Rattle.head.specs.Capacities.{capacitiesOf}
+use Rattle.head.specs.Reads.{HeadJob}
+use Rattle.head.specs.declared.Weights.{Weights}
+use Rattle.head.specs.declared.Head.{Head}
+use Rattle.head.specs.declared.Sizes.{Sizes}
+use Rattle.head.specs.declared.Sizes.the-variants.{Shape as sized, Refused as Unsized}
+use Rattle.head.specs.declared.Weighed.{Weighed}
+use Rattle.head.specs.declared.Weighed.the-variants.{Weights as weighed, Refused as Unweighed}
+use Rattle.head.specs.declared.HeadRead.{HeadRead}
+use Rattle.head.specs.declared.HeadRead.the-variants.{Head as headed, Refused as Unheaded}
+
+-- ---- sizes and weights in the text s
+
+abbrev pub sizesTold : List ℕ → Sizes → Result Shape
+sizesTold s (sized g c) = found g (placeOf s c)
+sizesTold s (Unsized r) = refusedBy r
+
+abbrev pub sizesHold : ℕ → ℕ → Sizes → Type 0
+sizesHold size line (sized g c) = Shaped g × After size line c
+sizesHold size line (Unsized r) = Unit {0}
+
+pub record Small (v : Weights) : Type 0 where
+  pub alpha : v .alpha ≤ mostWeight
+  pub beta : v .beta ≤ mostWeight
+  pub gamma : v .gamma ≤ mostWeight
+
+abbrev pub weightsTold : List ℕ → Weighed → Result Weights
+weightsTold s (weighed v c) = found v (placeOf s c)
+weightsTold s (Unweighed r) = refusedBy r
+
+abbrev pub weightsHold : ℕ → ℕ → Weighed → Type 0
+weightsHold size line (weighed v c) = Small v × After size line c
+weightsHold size line (Unweighed r) = Unit {0}
+
+-- ---- the line `nets`
+
+abbrev pub netsHold : ℕ → ℕ → ℕ → Field → Type 0
+netsHold size line order (Value n c) = (n ≤ mostNets) × (n ≤ order) × After size line c
+netsHold size line order (Refused r) = Unit {0}
+
+-- ---- the capacities, by the working numbers w
+
+abbrev pub capacitiesTold : List ℕ → Shape → List ℕ → Listed → Result (List (List ℕ))
+capacitiesTold s g w (Next c) = found (capacitiesOf g w) (placeOf s c)
+capacitiesTold s g w (Unlisted r) = refusedBy r
+
+-- what lies beyond the capacities is as it was
+abbrev pub beyondOf : Shape → List ℕ → List ℕ → Listed → Type 0
+beyondOf g w x (Next c) = drop (g .k * g .e) x ≡ drop (g .k * g .e) w
+beyondOf g w x (Unlisted r) = Unit {0}
+
+-- ---- the head
+
+abbrev pub headJob : Head → List ℕ → HeadJob
+headJob h w = record {
+  width = h .shape .w;
+  height = h .shape .h;
+  layers = h .shape .k;
+  alpha = h .alpha;
+  beta = h .beta;
+  gamma = h .gamma;
+  capacities = capacitiesOf (h .shape) w;
+  nets = h .nets;
+}
+
+abbrev pub headTold : List ℕ → List ℕ → HeadRead → Result HeadJob
+headTold s w (headed h c) = found (headJob h w) (placeOf s c)
+headTold s w (Unheaded r) = refusedBy r
+
+-- what holds of a head that was read, in a text of this size, with working numbers w before and x after, and so many order entries
+pub record Holds (size entries : ℕ) (w x : List ℕ) (h : Head) (c : Cursor) : Type 0 where
+  pub shaped : Shaped (h .shape)
+  pub alpha : h .alpha ≤ mostWeight
+  pub beta : h .beta ≤ mostWeight
+  pub gamma : h .gamma ≤ mostWeight
+  pub nets : h .nets ≤ mostNets
+  pub order : h .nets ≤ entries
+  pub working : workingNeed (h .shape .w) (h .shape .h) (h .shape .k) ≤ length w
+  pub place : c .at ≤ size
+  pub lines : c .line ≡ 7 + 2 * h .shape .k
+  pub beyond : drop (h .shape .k * h .shape .e) x ≡ drop (h .shape .k * h .shape .e) w
+
+abbrev pub headHolds : ℕ → ℕ → List ℕ → List ℕ → HeadRead → Type 0
+headHolds size entries w x (headed h c) = Holds size entries w x h c
+headHolds size entries w x (Unheaded r) = Unit {0}
