@@ -1,2 +1,5 @@
 mod Stacks
 mod Fields
+mod Spreads
+mod Layers
+mod Cases

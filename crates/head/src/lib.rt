@@ -10,7 +10,7 @@ use text::Refusal;
 ghost use mathlib.Core.Path.{_≡_};
 ghost use Prim.Native.Nat.{_+_, _*_, _<_, _≤_};
 ghost use lib.ListN.{length};
-ghost use Rattle.model.specs.Read.{workingNeed};
+ghost use Rattle.model.specs.Read.{workingNeed, capacityLines};
 ghost use Rattle.layout.specs.Shapes.{Shaped};
 ghost use Rattle.text.specs.Refusals.{placeOf};
 ghost use Rattle.lines.specs.Spread.{spread};
@@ -109,6 +109,99 @@ fn nets_line(s: &[u8], c: Cursor, order: usize) -> Field
                 return Field::Refused(Refusal::Order(d.line));
             }
             Field::Value(n, d)
+        }
+    }
+}
+
+// Both capacity lines of one layer, 0 being the bottom one: edge e's capacity is stored at e * K + layer.
+fn layer_lines(s: &[u8], c: Cursor, w: &mut [u32], g: Shape, layer: usize) -> Listed
+    requires { ⌜ (c .at ≤ length (now s)) × (c .line < 100) ⌝ }
+    requires { ⌜ Shaped g ⌝ }
+    requires { ⌜ (layer < g .k) × (g .k * g .e ≤ length (now w)) ⌝ }
+    ensures { λ r. ⌜ listTold (now (s .entry)) (now (w .exit)) r ≡ mapped (spread (g .k) (now (w .entry)) layer) (layerIn (g .w) (g .h) (placeOf (now (s .entry)) c)) ⌝ }
+    ensures { λ r. ⌜ listIn (length (now (s .entry))) (c .line + 2) r ⌝ }
+    ensures { λ _. ⌜ length (now (w .exit)) ≡ length (now (w .entry)) ⌝ }
+{
+    match lines::capacity_line(s, c, b"east=", w, layer, g.k, g.east) {
+        Listed::Refused(r) => Listed::Refused(r),
+        Listed::Next(d) => {
+            lines::capacity_line(s, d, b"north=", w, layer + g.east * g.k, g.k, g.e - g.east)
+        }
+    }
+}
+
+// The capacity lines of all layers.
+fn capacities(s: &[u8], from: Cursor, w: &mut [u32], g: Shape) -> Listed
+    requires { ⌜ (from .at ≤ length (now s)) × (from .line < 50) ⌝ }
+    requires { ⌜ Shaped g ⌝ }
+    requires { ⌜ g .k * g .e ≤ length (now w) ⌝ }
+    ensures { λ r. ⌜ capacitiesTold (now (s .entry)) g (now (w .exit)) r ≡ capacityLines (g .w) (g .h) (g .k) (placeOf (now (s .entry)) from) ⌝ }
+    ensures { λ r. ⌜ beyondOf g (now (w .entry)) (now (w .exit)) r ⌝ }
+    ensures { λ r. ⌜ listIn (length (now (s .entry))) (from .line + 2 * g .k) r ⌝ }
+    ensures { λ _. ⌜ length (now (w .exit)) ≡ length (now (w .entry)) ⌝ }
+{
+    let mut c = from;
+    let mut layer = 0;
+    while layer < g.k {
+        match layer_lines(s, c, w, g, layer) {
+            Listed::Refused(r) => {
+                return Listed::Refused(r);
+            }
+            Listed::Next(d) => {
+                c = d;
+            }
+        }
+        layer += 1;
+    }
+    Listed::Next(c)
+}
+
+// The lines after `layers`, where the working numbers are as many as the job needs.
+fn read_body(s: &[u8], c: Cursor, w: &mut [u32], order: usize, g: Shape) -> HeadRead
+    requires { ⌜ (c .at ≤ length (now s)) × (c .line ≡ 3) ⌝ }
+    requires { ⌜ Shaped g ⌝ }
+    requires { ⌜ workingNeed (g .w) (g .h) (g .k) ≤ length (now w) ⌝ }
+    ensures { λ r. ⌜ headTold (now (s .entry)) (now (w .exit)) r ≡ bodyIn g order (placeOf (now (s .entry)) c) ⌝ }
+    ensures { λ r. ⌜ headHolds (length (now (s .entry))) order (now (w .entry)) (now (w .exit)) r ⌝ }
+    ensures { λ _. ⌜ length (now (w .exit)) ≡ length (now (w .entry)) ⌝ }
+{
+    match read_weights(s, c) {
+        Weighed::Refused(r) => HeadRead::Refused(r),
+        Weighed::Weights(v, d) => match capacities(s, d, w, g) {
+            Listed::Refused(r) => HeadRead::Refused(r),
+            Listed::Next(e) => match nets_line(s, e, order) {
+                Field::Refused(r) => HeadRead::Refused(r),
+                Field::Value(nets, f) => HeadRead::Head(
+                    Head {
+                        shape: g,
+                        alpha: v.alpha,
+                        beta: v.beta,
+                        gamma: v.gamma,
+                        nets,
+                    },
+                    f,
+                ),
+            },
+        },
+    }
+}
+
+// The head of the text s, with the capacities stored in w: edge e's on layer l at e * K + (l - 1). `order` is the length of the lent order list.
+pub fn read_head(s: &[u8], w: &mut [u32], order: usize) -> HeadRead
+    ensures { λ r. ⌜ headTold (now (s .entry)) (now (w .exit)) r ≡ headIn (length (now (s .entry))) (length (now (w .entry))) order (record { line = 0; rest = now (s .entry) }) ⌝ }
+    ensures { λ r. ⌜ headHolds (length (now (s .entry))) order (now (w .entry)) (now (w .exit)) r ⌝ }
+    ensures { λ _. ⌜ length (now (w .exit)) ≡ length (now (w .entry)) ⌝ }
+{
+    if 1048576 < s.len() {
+        return HeadRead::Refused(Refusal::TooLong);
+    }
+    match read_sizes(s, Cursor { at: 0, line: 0 }) {
+        Sizes::Refused(r) => HeadRead::Refused(r),
+        Sizes::Shape(g, c) => {
+            if w.len() < layout::need(g) {
+                return HeadRead::Refused(Refusal::Working(c.line));
+            }
+            read_body(s, c, w, order, g)
         }
     }
 }
