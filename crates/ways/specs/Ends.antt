@@ -83,8 +83,17 @@ module _ (n : ℕ) (a : List ℕ) (t i : ℕ) (room : t < length a) (i-small : i
       go true e = rw (after-old e) f
       go false e = rw (after-new e) (mark-fits n a t i room i-small e f)
 
--- ---- an edge that was not marked
+-- ---- an edge
 
+pub ends-long : (n : ℕ) (a : List ℕ) (here there d : ℕ) → length (endsAfter n a here there d) ≡ length a
+unfolding endsAfter
+ends-long n a here there d = go (marked n a here (8 + d))
+  where
+    go : (q : Bool) → length (cond q a (marksAfter n (mark n a here (8 + d)) there (10 + d))) ≡ length a
+    go true = refl
+    go false = after-long n (mark n a here (8 + d)) there (10 + d) ∙ mark-long n a here (8 + d)
+
+-- an edge that was not marked
 module _ (n : ℕ) (a : List ℕ) (here there d : ℕ) (here-in : here < length a) (there-in : there < length a) (way : d ≤ 1) (new : marked n a here (8 + d) ≡ false) where
   -- the marks after the first of the two
   abbrev pub between : List ℕ
@@ -100,9 +109,6 @@ module _ (n : ℕ) (a : List ℕ) (here there d : ℕ) (here-in : here < length 
   pub ends-new : endsOf n a here there d ≡ New (firstMark n a here + firstMark n (mark n a here (8 + d)) there)
   unfolding endsOf
   ends-new = rw new
-
-  pub ends-long : length (endsAfter n a here there d) ≡ length a
-  ends-long = ap length ends-are ∙ after-long n (mark n a here (8 + d)) there (10 + d) ∙ mark-long n a here (8 + d)
 
   ends-has : (u k : ℕ) → marked n (endsAfter n a here there d) u k ≡ ((eqb there u && eqb (10 + d) k) || ((eqb here u && eqb (8 + d) k) || marked n a u k))
   ends-has u k =

@@ -1,0 +1,3 @@
+mod Grid
+mod Parts
+mod Turns

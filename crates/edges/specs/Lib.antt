@@ -1,0 +1,5 @@
+pub mod Lists
+pub mod Entries
+pub mod Reading
+pub mod Steps
+pub mod Line

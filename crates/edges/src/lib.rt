@@ -1,0 +1,95 @@
+// The `edges` line of a net, judged from left to right: the form of the whole line first, then range, the same edge twice, a ring, and reach. Its edges are
+// marked by tile, their ends joined, and each is counted into the flat demand.
+use layout::Shape;
+use text::Entry;
+use text::Fault;
+use ways::Ends;
+ghost use mathlib.Core.Path.{_≡_};
+ghost use mathlib.Core.Bool.{true, false};
+ghost use mathlib.Core.List.{List, [], _∷_, _++_};
+ghost use Prim.Native.Nat.{ℕ, _+_, _-_, _*_, _<_, _≤_};
+ghost use lib.ListN.{length, drop, getD, set};
+ghost use Rattle.layout.specs.Areas.{demandAt, tilesAt, linksAt, chosenAt};
+ghost use Rattle.layout.specs.Parts.{Outside};
+ghost use Rattle.layout.specs.Shapes.{Shaped};
+ghost use Rattle.model.specs.Job.{Pin};
+ghost use Rattle.model.specs.Read.{Triple, edgeInside};
+ghost use Rattle.scan.specs.Pins.{triple};
+ghost use Rattle.scan.specs.Ways.{edgesOf};
+ghost use Rattle.union.specs.Links.{Links, Merged};
+ghost use Rattle.ways.specs.Ends.{endsOf, endsAfter};
+ghost use Rattle.edges.specs.Reading.{tilesOf, linksOf, Reading, Few, Begun, Shown, GoesOn, Ready};
+ghost use Rattle.edges.specs.Line.{verdictOf, EntriesRead, LineRead};
+
+// What the entries of a line have shown so far, the worst of it: "On one line the lower number wins".
+pub enum Judged {
+    Fine,
+    Ring,
+    Twice,
+    Range,
+}
+
+// How many entries there were, and in how many parts the net's tiles lie.
+pub struct Seen {
+    pub entries: usize,
+    pub parts: usize,
+    pub judged: Judged,
+}
+
+// An `edges` line: the place after it and its entries; or its fault.
+pub enum EdgesRead {
+    Line(usize, usize),
+    Bad(Fault),
+}
+
+// "both ends inside the grid"
+fn inside(g: Shape, x: usize, y: usize, d: usize) -> bool
+    ensures { λ r. ⌜ r ≡ edgeInside (g .w) (g .h) (triple x y d) ⌝ }
+{
+    if g.w <= x {
+        return false;
+    }
+    if g.h <= y {
+        return false;
+    }
+    if d == 0 {
+        return x + 1 < g.w;
+    }
+    y + 1 < g.h
+}
+
+// Marks an edge in its two tiles.
+fn put_marks(w: &mut [u32], g: Shape, stamp: u32, here: usize, there: usize, d: u32) -> Ends
+    requires { ⌜ Shaped g ⌝ }
+    requires { ⌜ (chosenAt g ≤ length (now w)) × (here < g .t) × (there < g .t) × (d ≤ 1) × (stamp ≤ 8192) ⌝ }
+    ensures { λ r. ⌜ r ≡ endsOf stamp (tilesOf g (now (w .entry))) here there d ⌝ }
+    ensures { λ _. ⌜ tilesOf g (now (w .exit)) ≡ endsAfter stamp (tilesOf g (now (w .entry))) here there d ⌝ }
+    ensures { λ _. ⌜ Outside (tilesAt g) (g .t) (now (w .entry)) (now (w .exit)) ⌝ }
+{
+    let from = layout::tiles_at(g);
+    let to = layout::links_at(g);
+    ways::mark_ends(&mut w[from..to], stamp, here, there, d)
+}
+
+// Joins the two tiles of an edge. Whether they were apart.
+fn put_join(w: &mut [u32], g: Shape, stamp: u32, here: usize, there: usize) -> bool
+    requires { ⌜ Shaped g ⌝ }
+    requires { ⌜ (chosenAt g ≤ length (now w)) × (here < g .t) × (there < g .t) × (stamp ≤ 8192) × Links stamp (linksOf g (now w)) ⌝ }
+    ensures { λ r. ⌜ Merged stamp (linksOf g (now (w .entry))) here there (linksOf g (now (w .exit))) r ⌝ }
+    ensures { λ _. ⌜ Outside (linksAt g) (g .t) (now (w .entry)) (now (w .exit)) ⌝ }
+{
+    let from = layout::links_at(g);
+    let to = layout::chosen_at(g);
+    union::join(&mut w[from..to], stamp as usize, here, there)
+}
+
+// Counts an edge into the flat demand.
+fn put_demand(w: &mut [u32], g: Shape, edge: usize)
+    requires { ⌜ Shaped g ⌝ }
+    requires { ⌜ (chosenAt g ≤ length (now w)) × (edge < g .e) × (getD (now w) (demandAt g + edge) 0 ≤ 8192) ⌝ }
+    ensures { λ _. ⌜ now (w .exit) ≡ set (now (w .entry)) (demandAt g + edge) (getD (now (w .entry)) (demandAt g + edge) 0 + 1) ⌝ }
+{
+    let i = layout::demand_at(g) + edge;
+    w[i] = w[i] + 1;
+}
+
