@@ -8,7 +8,7 @@ use Prim.Native.Nat.{ℕ, _+_, _≤_, _<_}
 use native.Mathlib.Omega.{arith}
 use borrow.Author.Tests.{eqb-true}
 use lib.Dec.{eqb}
-use lib.ListN.{length, drop, getD, set, length-map}
+use lib.ListN.{length, drop, getD, set, length-set, length-map}
 use Rattle.layout.specs.Areas.{demandAt, tilesAt, linksAt, chosenAt}
 use Rattle.layout.specs.Parts.{Outside}
 use Rattle.layout.specs.Shapes.{Shaped, wayOf}
@@ -34,7 +34,7 @@ use Rattle.ways.specs.declared.Ends.the-variants.{Twice as Marked, New}
 use Rattle.edges.specs.Line.{judgedLine, verdictBy, EdgesFound, EntriesRead}
 use Rattle.edges.specs.Lists.{all-snoc, twice-snoc}
 use Rattle.edges.specs.Reading.{Reading, Few, Going, Shown, GoesOn, Ready, tilesOf, linksOf, edgesOn}
-use Rattle.edges.specs.Steps.{counted-most, counted-some, marked-has, links-were, ring-then, reading-then}
+use Rattle.edges.specs.Steps.{counted-most, counted-some, marked-has, ring-then, reading-then}
 use Rattle.edges.specs.declared.EdgesRead.the-variants.{Line, Bad}
 use Rattle.edges.specs.declared.Judged.{Judged}
 use Rattle.edges.specs.declared.Judged.the-variants.{Fine, Ring, Twice, Range}
@@ -144,22 +144,22 @@ module _ (g : Shape) (shaped : Shaped g) (n : ℕ) (t : Triple) (inside : edgeIn
         let m = rw here-low at (twice-marked n (tilesOf g w) here there (t .third) e) in
         (all-in g ts t (k .inside) inside, now-twice g ts t (sym (marked-has g shaped n ps (edgesOn g ts) parts w₀ w room (k .reading) t inside way) ∙ m))
 
+    pub new-few : (k : ℕ) → New k ≡ endsOf n (tilesOf g w) here there (t .third) → k ≤ 2
+    new-few k found-new =
+        omega (
+          arith,
+          new-marked n (tilesOf g w) here there (t .third) k found-new .1,
+          first-mark n (tilesOf g w) here,
+          first-mark n (mark n (tilesOf g w) here (8 + t .third)) there,
+        )
+
     module _ (k : ℕ) (found-new : New k ≡ endsOf n (tilesOf g w) here there (t .third)) (w₁ w₂ w₃ : List ℕ)
         (marks-out : Outside (tilesAt g) (g .t) w w₁)
         (marks-are : tilesOf g w₁ ≡ endsAfter n (tilesOf g w) here there (t .third))
         (stored : w₂ ≡ set w₁ (demandAt g + edge) (getD w₁ (demandAt g + edge) 0 + 1))
         (links-out : Outside (linksAt g) (g .t) w₂ w₃) where
-      pub new-few : k ≤ 2
-      new-few =
-          omega (
-            arith,
-            new-marked n (tilesOf g w) here there (t .third) k found-new .1,
-            first-mark n (tilesOf g w) here,
-            first-mark n (mark n (tilesOf g w) here (8 + t .third)) there,
-          )
-
       module _ (r : Bool) (merged : Merged n (linksOf g w₂) here there (linksOf g w₃) r) (j : Judged) (o : GoesOn j)
-          (ps : List Pin) (w₀ : List ℕ) (ts : List Triple) (parts parts′ : ℕ) (sum-is : parts′ + bit r ≡ parts + k) (s : Shown g n ps w₀ ts parts w j) where
+          (ps : List Pin) (w₀ : List ℕ) (ts : List Triple) (parts parts′ : ℕ) (s : Shown g n ps w₀ ts parts w j) where
         going : Going g n ps w₀ ts parts w
         going = goes-on g n ps w₀ ts parts w j o s .0
 
@@ -175,8 +175,8 @@ module _ (g : Shape) (shaped : Shaped g) (n : ℕ) (t : Triple) (inside : edgeIn
         merged-ends : Merged n (linksOf g w₂) (loOf (g .w) (g .h) (edgeOf g t)) (hiOf (g .w) (g .h) (edgeOf g t)) (linksOf g w₃) r
         merged-ends = rw (here-low, there-high) at merged
 
-        going-then : Going g n ps w₀ (ts ++ (t ∷ [])) parts′ w₃
-        going-then = record {
+        going-then : parts′ + bit r ≡ parts + k → Going g n ps w₀ (ts ++ (t ∷ [])) parts′ w₃
+        going-then sum-is = record {
           inside = all-in g ts t (going .inside) inside;
           once = still-once g ts t (going .once) (sym (marked-has g shaped n ps (edgesOn g ts) parts w₀ w room (going .reading) t inside way) ∙ new);
           reading = rw (on-snoc g ts t)
@@ -191,20 +191,24 @@ module _ (g : Shape) (shaped : Shaped g) (n : ℕ) (t : Triple) (inside : edgeIn
             ∙ ap (λ (q : Bool). cond q true (not r)) (goes-on g n ps w₀ ts parts w j o s .1)
 
         -- its ends were apart
-        pub add-joined : r ≡ true → Shown g n ps w₀ (ts ++ (t ∷ [])) parts′ w₃ j
-        add-joined e = shows g n ps w₀ (ts ++ (t ∷ [])) parts′ w₃ j o going-then (ring-now ∙ rw e (go (closed j)))
+        pub add-joined : r ≡ true → parts′ + 1 ≡ parts + k → Shown g n ps w₀ (ts ++ (t ∷ [])) parts′ w₃ j
+        add-joined e h = shows g n ps w₀ (ts ++ (t ∷ [])) parts′ w₃ j o (going-then (omega (arith, ap bit e))) (ring-now ∙ rw e (go (closed j)))
           where
             go : (q : Bool) → cond q true false ≡ q
             go true = refl
             go false = refl
 
         -- its ends were joined already
-        pub add-closed : r ≡ false → Shown g n ps w₀ (ts ++ (t ∷ [])) parts′ w₃ Ring
-        add-closed e = (going-then, ring-now ∙ rw e (go (closed j)))
+        pub add-closed : r ≡ false → parts′ ≡ parts + k → Shown g n ps w₀ (ts ++ (t ∷ [])) parts′ w₃ Ring
+        add-closed e h = (going-then (omega (arith, ap bit e)), ring-now ∙ rw e (go (closed j)))
           where
             go : (q : Bool) → cond q true true ≡ true
             go true = refl
             go false = refl
+
+-- each step keeps the length
+pub steps-long : (a b i v : ℕ) (t u : ℕ) (w w₁ w₂ w₃ : List ℕ) → Outside a t w w₁ → w₂ ≡ set w₁ i v → Outside b u w₂ w₃ → length w₃ ≡ length w
+steps-long a b i v t u w w₁ w₂ w₃ o e p = p .long ∙ ap length e ∙ length-set w₁ i v ∙ o .long
 
 -- ---- the verdict
 

@@ -60,6 +60,12 @@ module _ (lo hi : ℕ → ℕ) (size : ℕ) (touched par : ℕ → ℕ) (n : ℕ
 
 -- ---- one more edge
 
+-- marks and demand leave the links
+pub kept-links : (g : Shape) (w w₁ w₂ : List ℕ) (e v : ℕ) → e < g .e → Outside (tilesAt g) (g .t) w w₁ → w₂ ≡ set w₁ (demandAt g + e) v → linksOf g w₂ ≡ linksOf g w
+kept-links g w w₁ w₂ e v known out stored =
+    part-outside (demandAt g + e) 1 w₁ w₂ (rw stored (set-outside w₁ (demandAt g + e) v)) (linksAt g) (g .t) (inr (omega arith))
+    ∙ part-outside (tilesAt g) (g .t) w w₁ out (linksAt g) (g .t) (inr (omega arith))
+
 module _ (g : Shape) (shaped : Shaped g) (n : ℕ) (ps : List Pin) (es : List ℕ) (parts : ℕ) (w₀ w : List ℕ) (room : chosenAt g ≤ length w) (reading : Reading g n ps es parts w₀ w)
     (t : Triple) (inside : edgeInside (g .w) (g .h) t ≡ true) (way : t .third ≤ 1) where
   abbrev W : ℕ
@@ -124,11 +130,6 @@ module _ (g : Shape) (shaped : Shaped g) (n : ℕ) (ps : List Pin) (es : List �
         ∙ part-outside (demandAt g + edgeOf g t) 1 w₁ w₂ demand-out (tilesAt g) (g .t) (inr (omega (arith, at .known)))
         ∙ marks-are
 
-    pub links-were : linksOf g w₂ ≡ linksOf g w
-    links-were =
-        part-outside (demandAt g + edgeOf g t) 1 w₁ w₂ demand-out (linksAt g) (g .t) (inr (omega (arith, at .known)))
-        ∙ part-outside (tilesAt g) (g .t) w w₁ marks-out (linksAt g) (g .t) (inr (omega arith))
-
     ways-then : (u : Triple) → edgeInside (g .w) (g .h) u ≡ true → u .third ≤ 1
         → marked n (tilesOf g w₃) (startOf g u) (8 + u .third) ≡ has (es ++ (edgeOf g t ∷ [])) (edgeOf g u)
     ways-then u i h =
@@ -147,7 +148,7 @@ module _ (g : Shape) (shaped : Shaped g) (n : ℕ) (ps : List Pin) (es : List �
 
     module _ (r : Bool) (merged : Merged n (linksOf g w₂) (loOf (g .w) (g .h) (edgeOf g t)) (hiOf (g .w) (g .h) (edgeOf g t)) (linksOf g w₃) r) where
       merged-here : Merged n (linksOf g w) (loOf (g .w) (g .h) (edgeOf g t)) (hiOf (g .w) (g .h) (edgeOf g t)) (linksOf g w₃) r
-      merged-here = rw links-were at merged
+      merged-here = rw (kept-links g w w₁ w₂ (edgeOf g t) _ (at .known) marks-out stored) at merged
 
       -- the answer of the joining says whether the edge closes a ring
       pub ring-then : ring (g .w) (g .h) (es ++ (edgeOf g t ∷ [])) ≡ cond (ring (g .w) (g .h) es) true (not r)

@@ -93,3 +93,42 @@ fn put_demand(w: &mut [u32], g: Shape, edge: usize)
     w[i] = w[i] + 1;
 }
 
+// One more edge inside the grid, where none is there twice.
+fn add_edge(w: &mut [u32], g: Shape, stamp: u32, v: Seen, x: usize, y: usize, d: usize) -> Seen
+    requires { ⌜ Shaped g ⌝ }
+    requires { ⌜ (chosenAt g ≤ length (now w)) × (stamp ≤ 8192) × (v .entries < 4294967296) × (d ≤ 1) × (edgeInside (g .w) (g .h) (triple x y d) ≡ true) ⌝ }
+    requires { ⌜ Ready g stamp (v .parts) (now w) × GoesOn (v .judged) ⌝ }
+    ensures { λ r. ⌜ ((ps : List Pin) (w₀ : List ℕ) (ts : List Triple) → Shown g stamp ps w₀ ts (v .parts) (now (w .entry)) (v .judged) → Shown g stamp ps w₀ (ts ++ (triple x y d ∷ [])) (r .parts) (now (w .exit)) (r .judged)) ⌝ }
+    ensures { λ r. ⌜ r .entries ≡ v .entries + 1 ⌝ }
+    ensures { λ _. ⌜ length (now (w .exit)) ≡ length (now (w .entry)) ⌝ }
+{
+    let here = pins::tile_at(g, x, y);
+    let out = layout::way_out(g, here, d);
+    let there = out.tile;
+    let edge = out.edge;
+    let entries = v.entries + 1;
+    match put_marks(w, g, stamp, here, there, d as u32) {
+        Ends::Twice => Seen {
+            entries,
+            parts: v.parts,
+            judged: Judged::Twice,
+        },
+        Ends::New(k) => {
+            put_demand(w, g, edge);
+            let parts = v.parts + k;
+            if put_join(w, g, stamp, here, there) {
+                let judged = v.judged;
+                return Seen {
+                    entries,
+                    parts: parts - 1,
+                    judged,
+                };
+            }
+            Seen {
+                entries,
+                parts,
+                judged: Judged::Ring,
+            }
+        }
+    }
+}

@@ -1,0 +1,169 @@
+-- `add_edge` meets its contract.
+-- Assumes nothing.
+use mathlib.Core.Bool.{true}
+use mathlib.Core.List.{List}
+use mathlib.Core.Path.{_≡_, refl, sym, ap, _∙_}
+use Prim.Native.Nat.{ℕ, _+_, _-_, _≤_, _<_}
+use native.Mathlib.Omega.{arith}
+use lib.ListN.{length, length-set}
+use borrow.Author.Needs.{needs}
+use Rattle.layout.specs.Areas.{demandAt, tilesAt}
+use Rattle.layout.specs.Parts.{Outside}
+use Rattle.layout.specs.Shapes.{wayOf}
+use Rattle.layout.specs.declared.Way.{Way}
+use Rattle.model.specs.Read.{Triple, edgeInside}
+use Rattle.scan.specs.Pins.{triple}
+use Rattle.ways.specs.Ends.{endsOf, endsAfter}
+use Rattle.ways.specs.Entry.{startOf, placed}
+use Rattle.ways.specs.declared.Ends.the-variants.{New}
+use Rattle.edges.specs.Reading.{tilesOf}
+use Rattle.edges.specs.Steps.{kept-links}
+use Rattle.edges.proofs.Turns.{here-inside, there-inside, edge-inside, add-twice, new-few, add-joined, add-closed, steps-long}
+use Rattle.edges.proofs.add_edge.Statement.{statement}
+use Rattle.edges.proofs.add_edge.Tie as tie
+
+-- ---- the edge
+
+module _ (k : tie.After-way-out) where
+  abbrev start : tie.Start
+  start = k .before .before .before
+
+  abbrev entry : Triple
+  entry = triple (start .args .x) (start .args .y) (start .args .d)
+
+  abbrev here : ℕ
+  here = k .before .tile-at .result
+
+  abbrev there : ℕ
+  there = k .way-out .result .tile
+
+  abbrev edge : ℕ
+  edge = k .way-out .result .edge
+
+  is-way : start .args .d ≤ 1
+  is-way = start .pre .1 .0 .3
+
+  is-inside : edgeInside (start .args .g .w) (start .args .g .h) (triple (start .args .x) (start .args .y) (start .args .d)) ≡ true
+  is-inside = start .pre .1 .0 .4
+
+  here-is : here ≡ startOf (start .args .g) entry
+  here-is = k .before .tile-at .ensures .0
+
+  there-is : there ≡ wayOf (start .args .g) here (start .args .d) .tile
+  there-is = ap (λ (z : Way). z .tile) (k .way-out .ensures)
+
+  edge-is : edge ≡ wayOf (start .args .g) here (start .args .d) .edge
+  edge-is = ap (λ (z : Way). z .edge) (k .way-out .ensures)
+
+tile-at-requires : tie.Need-tile-at-requires
+tile-at-requires c κs =
+    let x = c .before .args in
+    let p = c .before .pre in
+    let at = placed (x .g) (p .0) (triple (x .x) (x .y) (x .d)) (p .1 .0 .4) (p .1 .0 .3) in
+    (p .0, (at .column, at .row))
+
+put-marks-requires : tie.Need-put-marks-requires
+put-marks-requires c κs =
+    let k = c .before .before in
+    let p = start k .pre in
+    (p .0, (p .1 .0 .0, here-inside (start k .args .g) (start k .pre .0) (start k .args .stamp) (entry k) (is-inside k) (is-way k) (here k) (there k) (edge k) (here-is k) (there-is k) (edge-is k), there-inside (start k .args .g) (start k .pre .0) (start k .args .stamp) (entry k) (is-inside k) (is-way k) (here k) (there k) (edge k) (here-is k) (there-is k) (edge-is k), p .1 .0 .3, p .1 .0 .1))
+
+returns-2 : tie.Need-returns-2
+returns-2 c =
+    let k = c .before .before .before .before .before .before .before in
+    let m = c .before .before .before .before .put-marks in (
+      λ ps w₀ ts s.
+          add-twice (start k .args .g) (start k .pre .0) (start k .args .stamp) (entry k) (is-inside k) (is-way k) (here k) (there k) (edge k) (here-is k) (there-is k) (edge-is k) (start k .args .w .now) (start k .pre .1 .0 .0)
+          (sym (c .enum-told .given .1) ∙ m .ensures .0) (start k .args .v .judged) (start k .pre .1 .1 .1) ps w₀ ts (start k .args .v .parts) (start k .args .v .parts) (m .last .0) s,
+      (refl, m .ensures .1 .1 .long),
+    )
+
+-- ---- a new edge
+
+module _ (q : tie.After-known-told) where
+  abbrev out : tie.After-way-out
+  out = q .before .before .before .before .before .before .before .before
+
+  -- how many of its tiles are new
+  abbrev new : ℕ
+  new = q .before .k .given .0 .0
+
+  -- the working numbers after its marks
+  abbrev first : List ℕ
+  first = q .before .before .before .before .before .put-marks .last .0
+
+  found-new : New new ≡ endsOf (start out .args .stamp) (tilesOf (start out .args .g) (start out .args .w .now)) (here out) (there out) (start out .args .d)
+  found-new = sym (q .before .k .given .1) ∙ q .before .before .before .before .before .put-marks .ensures .0
+
+  few : new ≤ 2
+  few = new-few (start out .args .g) (start out .pre .0) (start out .args .stamp) (entry out) (is-inside out) (is-way out) (here out) (there out) (edge out) (here-is out) (there-is out) (edge-is out) (start out .args .w .now) (start out .pre .1 .0 .0) new found-new
+
+  marks-out : Outside (tilesAt (start out .args .g)) (start out .args .g .t) (start out .args .w .now) first
+  marks-out = q .before .before .before .before .before .put-marks .ensures .1 .1
+
+  marks-are : tilesOf (start out .args .g) first ≡ endsAfter (start out .args .stamp) (tilesOf (start out .args .g) (start out .args .w .now)) (here out) (there out) (start out .args .d)
+  marks-are = q .before .before .before .before .before .put-marks .ensures .1 .0
+
+  known : edge out < start out .args .g .e
+  known = edge-inside (start out .args .g) (start out .pre .0) (start out .args .stamp) (entry out) (is-inside out) (is-way out) (here out) (there out) (edge out) (here-is out) (there-is out) (edge-is out)
+
+put-demand-requires : tie.Need-put-demand-requires
+put-demand-requires c κs =
+    let q = c .before in
+    let p = start (out q) .pre in
+    (p .0, (omega (arith, p .1 .0 .0, marks-out q .long), known q, omega (arith, marks-out q .low (demandAt (start (out q) .args .g) + edge (out q)) (omega (arith, known q)), p .1 .1 .0 .demand (edge (out q)) (known q))))
+
+put-join-requires : tie.Need-put-join-requires
+put-join-requires c κs =
+    let q = c .before .before .before .before .before .before in
+    let x = start (out q) .args in
+    let p = start (out q) .pre in
+    let d = c .before .before .before .before .put-demand in (
+      p .0,
+      (
+        omega (arith, p .1 .0 .0, marks-out q .long, ap length (d .ensures) ∙ length-set (first q) (demandAt (x .g) + edge (out q)) _),
+        here-inside (start (out q) .args .g) (start (out q) .pre .0) (start (out q) .args .stamp) (entry (out q)) (is-inside (out q)) (is-way (out q)) (here (out q)) (there (out q)) (edge (out q)) (here-is (out q)) (there-is (out q)) (edge-is (out q)),
+        there-inside (start (out q) .args .g) (start (out q) .pre .0) (start (out q) .args .stamp) (entry (out q)) (is-inside (out q)) (is-way (out q)) (here (out q)) (there (out q)) (edge (out q)) (here-is (out q)) (there-is (out q)) (edge-is (out q)),
+        p .1 .0 .1,
+        rw (kept-links (x .g) (x .w .now) (first q) (d .last .0) (edge (out q)) _ (known q) (marks-out q) (d .ensures)) (p .1 .1 .0 .links),
+      ),
+    )
+
+-- ---- and after the joining
+
+returns : tie.Need-returns
+returns c =
+    let q = c .before .before .before .before .before .before .before .before .before .before in
+    let x = start (out q) .args in
+    let p = start (out q) .pre in
+    let d = c .before .before .before .before .before .before .before .before .put-demand in
+    let m = c .before .before .before .put-join in (
+      λ ps w₀ ts s.
+          add-joined (start (out q) .args .g) (start (out q) .pre .0) (start (out q) .args .stamp) (entry (out q)) (is-inside (out q)) (is-way (out q)) (here (out q)) (there (out q)) (edge (out q)) (here-is (out q)) (there-is (out q)) (edge-is (out q)) (x .w .now) (p .1 .0 .0) (new q) (found-new q) (first q) (d .last .0) (m .last .0) (marks-out q) (marks-are q) (d .ensures) (m .ensures .1)
+          (m .result) (m .ensures .0) (x .v .judged) (p .1 .1 .1) ps w₀ ts (x .v .parts) (x .v .parts + new q - 1) s (c .if1 .taken) (omega (arith, p .1 .1 .0 .some-part)),
+      (refl, steps-long _ _ _ _ _ _ (x .w .now) (first q) (d .last .0) (m .last .0) (marks-out q) (d .ensures) (m .ensures .1)),
+    )
+
+returns-3 : tie.Need-returns-3
+returns-3 c =
+    let q = c .before .before .before .before .before .before .before .before .before .before in
+    let x = start (out q) .args in
+    let p = start (out q) .pre in
+    let d = c .before .before .before .before .before .before .before .before .put-demand in
+    let m = c .before .before .before .put-join in (
+      λ ps w₀ ts s.
+          add-closed (start (out q) .args .g) (start (out q) .pre .0) (start (out q) .args .stamp) (entry (out q)) (is-inside (out q)) (is-way (out q)) (here (out q)) (there (out q)) (edge (out q)) (here-is (out q)) (there-is (out q)) (edge-is (out q)) (x .w .now) (p .1 .0 .0) (new q) (found-new q) (first q) (d .last .0) (m .last .0) (marks-out q) (marks-are q) (d .ensures) (m .ensures .1)
+          (m .result) (m .ensures .0) (x .v .judged) (p .1 .1 .1) ps w₀ ts (x .v .parts) (x .v .parts + new q) s (c .if1 .left) refl,
+      (refl, steps-long _ _ _ _ _ _ (x .w .now) (first q) (d .last .0) (m .last .0) (marks-out q) (d .ensures) (m .ensures .1)),
+    )
+
+pub add-edge-spec : {M : Type 1} → statement M
+add-edge-spec =
+    tie.close
+    (tie.spec
+    tile-at-requires (λ c κs. search needs) (λ c. search needs) (λ c. search needs) put-marks-requires (λ c. search needs) (λ c. search needs)
+    put-demand-requires
+    (λ c. omega (arith, few (c .before .before .before .before .before), start (out (c .before .before .before .before .before)) .pre .1 .1 .0 .few-parts))
+    put-join-requires
+    (λ c. omega (arith, start (out (c .before .before .before .before .before .before .before .before .before .before)) .pre .1 .1 .0 .some-part))
+    (λ c. search needs) returns (λ c. search needs) returns-2 (λ c. search needs) returns-3)
