@@ -74,6 +74,13 @@ module _ (g : Shape) (ts : List Triple) (t : Triple) where
   still-once : twice eqb (edgesOn g ts) ≡ false → has (edgesOn g ts) (edgeOf g t) ≡ false → twice eqb (edgesOn g (ts ++ (t ∷ []))) ≡ false
   still-once a h = ap (twice eqb) on-snoc ∙ twice-snoc (edgesOn g ts) (edgeOf g t) ∙ rw (a, h)
 
+module _ (g : Shape) (n : ℕ) (ps : List Pin) (w₀ : List ℕ) (ts : List Triple) (parts : ℕ) (w : List ℕ) (t : Triple) (j : Judged) where
+  pub after-twice : j ≡ Twice → edgeInside (g .w) (g .h) t ≡ true → Shown g n ps w₀ ts parts w j → Shown g n ps w₀ (ts ++ (t ∷ [])) parts w Twice
+  after-twice e i s = let k = rw e at s in (all-in g ts t (k .0) i, still-twice g ts t (k .1))
+
+  pub after-range : j ≡ Range → Shown g n ps w₀ ts parts w j → Shown g n ps w₀ (ts ++ (t ∷ [])) parts w Range
+  after-range e s = still-out g ts t (rw e at s)
+
 -- ---- where the marks go on
 
 -- whether a ring was found

@@ -132,3 +132,38 @@ fn add_edge(w: &mut [u32], g: Shape, stamp: u32, v: Seen, x: usize, y: usize, d:
         }
     }
 }
+
+// One more entry. Where one has left the grid, or an edge is there twice, nothing is marked any more: only form and range can still decide.
+fn put_edge(w: &mut [u32], g: Shape, stamp: u32, v: Seen, x: usize, y: usize, d: usize) -> Seen
+    requires { ⌜ Shaped g ⌝ }
+    requires { ⌜ (chosenAt g ≤ length (now w)) × (stamp ≤ 8192) × (v .entries < 4294967296) × (d ≤ 1) ⌝ }
+    requires { ⌜ (GoesOn (v .judged) → Ready g stamp (v .parts) (now w)) ⌝ }
+    ensures { λ r. ⌜ ((ps : List Pin) (w₀ : List ℕ) (ts : List Triple) → Shown g stamp ps w₀ ts (v .parts) (now (w .entry)) (v .judged) → Shown g stamp ps w₀ (ts ++ (triple x y d ∷ [])) (r .parts) (now (w .exit)) (r .judged)) ⌝ }
+    ensures { λ r. ⌜ r .entries ≡ v .entries + 1 ⌝ }
+    ensures { λ _. ⌜ length (now (w .exit)) ≡ length (now (w .entry)) ⌝ }
+{
+    let entries = v.entries + 1;
+    let parts = v.parts;
+    if !inside(g, x, y, d) {
+        return Seen {
+            entries,
+            parts,
+            judged: Judged::Range,
+        };
+    }
+    let judged = v.judged;
+    match judged {
+        Judged::Fine => add_edge(w, g, stamp, v, x, y, d),
+        Judged::Ring => add_edge(w, g, stamp, v, x, y, d),
+        Judged::Twice => Seen {
+            entries,
+            parts,
+            judged: Judged::Twice,
+        },
+        Judged::Range => Seen {
+            entries,
+            parts,
+            judged: Judged::Range,
+        },
+    }
+}
