@@ -1,3 +1,4 @@
 mod Grid
 mod Parts
 mod Turns
+mod Law

@@ -167,3 +167,86 @@ fn put_edge(w: &mut [u32], g: Shape, stamp: u32, v: Seen, x: usize, y: usize, d:
         },
     }
 }
+
+// The verdict on a line whose form is right.
+fn verdict(v: Seen, next: usize) -> EdgesRead
+    ensures { λ r. ⌜ r ≡ verdictOf v next ⌝ }
+{
+    let judged = v.judged;
+    match judged {
+        Judged::Range => EdgesRead::Bad(Fault::Range),
+        Judged::Twice => EdgesRead::Bad(Fault::EdgeTwice),
+        Judged::Ring => EdgesRead::Bad(Fault::Ring),
+        Judged::Fine => {
+            if v.parts != 1 {
+                return EdgesRead::Bad(Fault::Apart);
+            }
+            EdgesRead::Line(next, v.entries)
+        }
+    }
+}
+
+// The entries of an `edges` line from `at` on.
+fn edges(s: &[u8], at: usize, w: &mut [u32], g: Shape, stamp: u32, parts: usize) -> EdgesRead
+    requires { ⌜ Shaped g ⌝ }
+    requires { ⌜ (chosenAt g ≤ length (now w)) × (stamp ≤ 8192) × (length (now s) ≤ 1048576) ⌝ }
+    requires { ⌜ Few g stamp (now w) × Begun g stamp parts (now w) ⌝ }
+    ensures { λ r. ⌜ ((ps : List Pin) (w₀ : List ℕ) → 1 ≤ length ps → Reading g stamp ps [] parts w₀ (now (w .entry)) → EntriesRead g stamp (now (s .entry)) ps w₀ (now (w .exit)) (edgesOf (drop at (now (s .entry)))) r) ⌝ }
+    ensures { λ _. ⌜ length (now (w .exit)) ≡ length (now (w .entry)) ⌝ }
+{
+    let mut i = at;
+    let mut v = Seen {
+        entries: 0,
+        parts,
+        judged: Judged::Fine,
+    };
+    loop {
+        match text::edge_at(s, i) {
+            Entry::Bad => {
+                return EdgesRead::Bad(Fault::Form);
+            }
+            Entry::Last(x, y, d, next) => {
+                let z = put_edge(w, g, stamp, v, x, y, d);
+                return verdict(z, next);
+            }
+            Entry::More(x, y, d, next) => {
+                v = put_edge(w, g, stamp, v, x, y, d);
+                i = next;
+            }
+        }
+    }
+}
+
+// The `edges` line at `at`, behind the `pins` line of the net, whose tiles lie in so many parts. After a refusal nothing is said of the working numbers
+// but their length.
+pub fn edges_line(
+    s: &[u8],
+    at: usize,
+    w: &mut [u32],
+    g: Shape,
+    stamp: u32,
+    parts: usize,
+) -> EdgesRead
+    requires { ⌜ Shaped g ⌝ }
+    requires { ⌜ (chosenAt g ≤ length (now w)) × (stamp ≤ 8192) × (length (now s) ≤ 1048576) × (at ≤ length (now s)) ⌝ }
+    requires { ⌜ Few g stamp (now w) × Begun g stamp parts (now w) ⌝ }
+    ensures { λ r. ⌜ ((ps : List Pin) (w₀ : List ℕ) → 1 ≤ length ps → Reading g stamp ps [] parts w₀ (now (w .entry)) → LineRead g stamp (now (s .entry)) at ps w₀ (now (w .exit)) r) ⌝ }
+    ensures { λ _. ⌜ length (now (w .exit)) ≡ length (now (w .entry)) ⌝ }
+{
+    if !text::key_at(s, at, b"edges=") {
+        return EdgesRead::Bad(Fault::Form);
+    }
+    let from = at + 6;
+    if s.len() <= from {
+        return EdgesRead::Bad(Fault::Form);
+    }
+    if s[from] == 10 {
+        let v = Seen {
+            entries: 0,
+            parts,
+            judged: Judged::Fine,
+        };
+        return verdict(v, from + 1);
+    }
+    edges(s, from, w, g, stamp, parts)
+}

@@ -1,0 +1,17 @@
+-- `verdict` meets its contract.
+-- Assumes nothing.
+use borrow.Author.Needs.{needs}
+use Rattle.edges.proofs.Turns.{verdict-is, verdict-apart, verdict-line}
+use Rattle.edges.proofs.verdict.Statement.{statement}
+use Rattle.edges.proofs.verdict.Tie as tie
+
+pub verdict-spec : {M : Type 1} → statement M
+verdict-spec =
+    tie.close
+    (tie.spec
+    (λ c. search needs) (λ c. search needs) (λ c. search needs) (λ c. search needs)
+    (λ c. let x = c .before .before .before .before .args in verdict-apart (x .v) (x .next) (c .before .before .enum-told4 .given .1) (c .if1 .taken))
+    (λ c. let x = c .before .before .args in verdict-is (x .v) (x .next) _ (c .enum-told .given .1))
+    (λ c. let x = c .before .before .args in verdict-is (x .v) (x .next) _ (c .enum-told2 .given .1))
+    (λ c. let x = c .before .before .args in verdict-is (x .v) (x .next) _ (c .enum-told3 .given .1))
+    (λ c. let x = c .before .before .before .before .args in verdict-line (x .v) (x .next) (c .before .before .enum-told4 .given .1) (c .if1 .left)))
