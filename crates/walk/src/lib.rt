@@ -1,0 +1,50 @@
+// The walk: "breadth first from the net's lowest-numbered tile. The four ways out of a tile come in the order east, north, west, south, leaving out the
+// way back." The tiles of the net at hand are numbered in this order; by place, w has the tile, the edge above it, the end of its branches, and its pins.
+use layout::Shape;
+ghost use mathlib.Core.Path.{_≡_};
+ghost use mathlib.Core.Bool.{true};
+ghost use mathlib.Core.List.{[], _∷_};
+ghost use Prim.Native.Nat.{ℕ, _+_, _<_, _≤_};
+ghost use lib.ListN.{length};
+ghost use Rattle.layout.specs.Areas.{stopsAt, areasEnd};
+ghost use Rattle.layout.specs.Shapes.{Shaped, WayRoom};
+ghost use Rattle.marks.specs.Words.{bitOf};
+ghost use Rattle.walk.specs.Steps.{onward, fourWays, putWays};
+
+// Writes the tile at the end of way d of tile x as place n, if the net goes there and it is not the way back. m has the marks of tile x.
+fn step(w: &mut [u32], g: Shape, x: usize, m: u32, above: usize, d: usize, n: usize) -> usize
+    requires { ⌜ Shaped g ⌝ }
+    requires { ⌜ areasEnd g ≤ length (now w) ⌝ }
+    requires { ⌜ d < 4 ⌝ }
+    requires { ⌜ (bitOf m (8 + d) ≡ true → WayRoom g x d) ⌝ }
+    requires { ⌜ n + length (onward g x m above (d ∷ [])) ≤ g .t ⌝ }
+    ensures { λ r. ⌜ r ≡ n + length (onward g x m above (d ∷ [])) ⌝ }
+    ensures { λ _. ⌜ now (w .exit) ≡ putWays (stopsAt g) (g .t) (now (w .entry)) n (onward g x m above (d ∷ [])) ⌝ }
+{
+    if !marks::bit(m, (marks::WAYS + d) as u32) {
+        return n;
+    }
+    let y = layout::way_out(g, x, d);
+    if y.edge == above {
+        return n;
+    }
+    w[layout::stops_at(g) + n] = y.tile as u32;
+    w[layout::above_at(g) + n] = y.edge as u32;
+    n + 1
+}
+
+// Writes the branches of tile x from place n on: its four ways in order. Returns where they end.
+fn branches(w: &mut [u32], g: Shape, x: usize, m: u32, above: usize, n: usize) -> usize
+    requires { ⌜ Shaped g ⌝ }
+    requires { ⌜ areasEnd g ≤ length (now w) ⌝ }
+    requires { ⌜ ((d : ℕ) → d < 4 → bitOf m (8 + d) ≡ true → WayRoom g x d) ⌝ }
+    requires { ⌜ n + length (onward g x m above fourWays) ≤ g .t ⌝ }
+    ensures { λ r. ⌜ r ≡ n + length (onward g x m above fourWays) ⌝ }
+    ensures { λ _. ⌜ now (w .exit) ≡ putWays (stopsAt g) (g .t) (now (w .entry)) n (onward g x m above fourWays) ⌝ }
+{
+    let mut end = n;
+    for d in 0..4 {
+        end = step(w, g, x, m, above, d, end);
+    }
+    end
+}
