@@ -9,7 +9,7 @@ ghost use lib.ListN.{length};
 ghost use Rattle.layout.specs.Areas.{stopsAt, areasEnd};
 ghost use Rattle.layout.specs.Shapes.{Shaped, WayRoom};
 ghost use Rattle.marks.specs.Words.{bitOf};
-ghost use Rattle.walk.specs.Steps.{onward, fourWays, putWays};
+ghost use Rattle.walk.specs.Steps.{onward, fourWays, putWays, tileIn, marksIn, branchesIn, visited};
 
 // Writes the tile at the end of way d of tile x as place n, if the net goes there and it is not the way back. m has the marks of tile x.
 fn step(w: &mut [u32], g: Shape, x: usize, m: u32, above: usize, d: usize, n: usize) -> usize
@@ -46,5 +46,24 @@ fn branches(w: &mut [u32], g: Shape, x: usize, m: u32, above: usize, n: usize) -
     for d in 0..4 {
         end = step(w, g, x, m, above, d, end);
     }
+    end
+}
+
+// Takes out the tile at place i: writes its branches from place n on, and notes where they end and the layers of the tile's pins.
+fn visit(w: &mut [u32], g: Shape, stamp: u32, i: usize, n: usize) -> usize
+    requires { ⌜ Shaped g ⌝ }
+    requires { ⌜ areasEnd g ≤ length (now w) ⌝ }
+    requires { ⌜ (i < g .t) × (tileIn g (now w) i < g .t) ⌝ }
+    requires { ⌜ ((d : ℕ) → d < 4 → bitOf (marksIn g stamp (now w) i) (8 + d) ≡ true → WayRoom g (tileIn g (now w) i) d) ⌝ }
+    requires { ⌜ n + length (branchesIn g stamp (now w) i) ≤ g .t ⌝ }
+    ensures { λ r. ⌜ r ≡ n + length (branchesIn g stamp (now (w .entry)) i) ⌝ }
+    ensures { λ _. ⌜ now (w .exit) ≡ visited g stamp (now (w .entry)) i n ⌝ }
+{
+    let x = w[layout::stops_at(g) + i] as usize;
+    let above = w[layout::above_at(g) + i] as usize;
+    let m = marks::bits(w[layout::tiles_at(g) + x], stamp);
+    let end = branches(w, g, x, m, above, n);
+    w[layout::engine_at(g) + i] = end as u32;
+    w[layout::engine_at(g) + g.t + i] = m % 256;
     end
 }
