@@ -1,3 +1,5 @@
 mod Puts
 mod Turns
 mod Visits
+mod Places
+mod Going

@@ -9,7 +9,9 @@ ghost use lib.ListN.{length};
 ghost use Rattle.layout.specs.Areas.{stopsAt, areasEnd};
 ghost use Rattle.layout.specs.Shapes.{Shaped, WayRoom};
 ghost use Rattle.marks.specs.Words.{bitOf};
+ghost use Rattle.model.specs.Job.{Job, Net};
 ghost use Rattle.walk.specs.Steps.{onward, fourWays, putWays, tileIn, marksIn, branchesIn, visited};
+ghost use Rattle.walk.specs.Walked.{Walks, WalkReady, Walked};
 
 // Writes the tile at the end of way d of tile x as place n, if the net goes there and it is not the way back. m has the marks of tile x.
 fn step(w: &mut [u32], g: Shape, x: usize, m: u32, above: usize, d: usize, n: usize) -> usize
@@ -66,4 +68,23 @@ fn visit(w: &mut [u32], g: Shape, stamp: u32, i: usize, n: usize) -> usize
     w[layout::engine_at(g) + i] = end as u32;
     w[layout::engine_at(g) + g.t + i] = m % 256;
     end
+}
+
+// Numbers the tiles of the net at hand in walk order from `root` on, its lowest tile. No edge has the number E, which stands above the root.
+// Returns how many tiles the net has.
+pub fn walk(w: &mut [u32], g: Shape, stamp: u32, root: usize) -> usize
+    requires { ⌜ Shaped g ⌝ }
+    requires { ⌜ areasEnd g ≤ length (now w) ⌝ }
+    requires { ⌜ WalkReady g stamp root (now w) ⌝ }
+    ensures { λ r. ⌜ ((j : Job) (net : Net) → Walks g stamp j net root (now (w .entry)) → Walked g j net (now (w .entry)) (now (w .exit)) r) ⌝ }
+{
+    w[layout::stops_at(g)] = root as u32;
+    w[layout::above_at(g)] = g.e as u32;
+    let mut n = 1;
+    let mut i = 0;
+    while i < n {
+        n = visit(w, g, stamp, i, n);
+        i += 1;
+    }
+    n
 }
