@@ -1,0 +1,3 @@
+mod Fill
+mod Turns
+mod Layers

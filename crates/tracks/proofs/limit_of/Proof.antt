@@ -1,0 +1,14 @@
+-- `limit_of` meets its contract.
+-- Assumes nothing.
+use mathlib.Core.Path.{refl}
+use borrow.Author.Needs.{needs}
+use Rattle.model.specs.Overflow.{ceilDiv}
+use Rattle.tracks.proofs.limit_of.Statement.{statement}
+use Rattle.tracks.proofs.limit_of.Tie as tie
+
+returns : tie.Need-returns
+unfolding ceilDiv
+returns c = refl
+
+pub limit-of-spec : {M : Type 1} → statement M
+limit-of-spec = tie.close (tie.spec (λ c. search needs) (λ c. search needs) (λ c. search needs) (λ c. search needs) returns)

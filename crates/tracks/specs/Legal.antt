@@ -1,0 +1,128 @@
+-- The legal layers of an edge as bits of a number: bit l − 1 is layer l.
+-- Assumes nothing.
+use mathlib.Core.Bool.{Bool, true, false, cond}
+use mathlib.Core.List.{List}
+use mathlib.Core.Logic.{_↔_}
+use mathlib.Core.Path.{_≡_, refl, sym, ap, _∙_, subst}
+use Prim.Native.Nat.{ℕ, _+_, _-_, _*_, _≤_, _<_}
+use native.Mathlib.Omega.{arith}
+use borrow.Author.Tests.{ltb-true, ltb-false}
+use lib.Dec.{T, ltb, ltb→lt, lt→ltb}
+use lib.ListN.{getD}
+use Rattle.layout.specs.Areas.{loadsAt, demandAt}
+use Rattle.layout.specs.declared.Shape.{Shape}
+use Rattle.marks.specs.Words.{bitOf}
+use Rattle.model.specs.Job.{Job, layersOf, capacity}
+use Rattle.model.specs.Legal.{isLegal}
+use Rattle.model.specs.Lists.{occurs, In}
+use Rattle.model.specs.Overflow.{flatOverflow, limit}
+use Rattle.model.specs.Plan.{placed, legal}
+use Rattle.net.specs.SoFar.{SoFarWith, SoFar}
+use Rattle.theory.specs.congestion.Base.{upFrom-once, in-upFrom}
+use Rattle.theory.specs.congestion.Edge.{Legal, put-same, sum-over-put, isLegal→, →isLegal}
+use Rattle.theory.specs.congestion.Sums.{in-keep}
+use Rattle.theory.specs.links.Tests.{is-true, test-eq}
+use Rattle.tracks.specs.Masks.{bitsUp, bits-up, bits-past, bits-few}
+
+-- by how much a layer may pass its capacity: the limit where the edge has overflow left, and else 0
+abbrev pub roomOf : ℕ → ℕ → ℕ
+roomOf left m = cond (ltb 0 left) m 0
+
+-- one more net may go on the layer
+abbrev pub openTo : ℕ → ℕ → ℕ → Bool
+openTo load cap room = ltb load (cap + room)
+
+-- the same of layer i of those whose capacities stand from a on and whose nets from b on
+abbrev pub openIn : List ℕ → ℕ → ℕ → ℕ → ℕ → Bool
+openIn w a b room i = openTo (getD w (b + i) 0) (getD w (a + i) 0) room
+
+-- layer i + 1 of edge e, where the limit is m
+abbrev pub openAt : Shape → List ℕ → ℕ → ℕ → ℕ → Bool
+openAt g w e m = openIn w (e * g .k) (loadsAt g + e * g .k) (roomOf (getD w (demandAt g + e) 0) m)
+
+unfoldable pub legalMask : Shape → List ℕ → ℕ → ℕ → ℕ
+legalMask g w e m = bitsUp (openAt g w e m) 0 (g .k)
+
+pub mask-small : (g : Shape) (w : List ℕ) (e m : ℕ) → g .k ≤ 8 → legalMask g w e m < 256
+unfolding legalMask
+mask-small g w e m h = bits-few (openAt g w e m) 0 (g .k) h
+
+-- there is no layer above K
+pub mask-past : (g : Shape) (w : List ℕ) (e m i : ℕ) → g .k ≤ i → bitOf (legalMask g w e m) i ≡ false
+unfolding legalMask
+mask-past g w e m i h = bits-past (openAt g w e m) 0 (g .k) i h
+
+-- ---- it is the definitions' test
+
+-- a and c are the nets and the capacity of a layer, s the edge's overflows together, t the same with one more net there, and `left` what o has left
+there : (a c m left : ℕ) → T (openTo a c (roomOf left m)) → a + 1 - c ≤ m
+there a c m left h = go (ltb 0 left) (ltb→lt a (c + roomOf left m) h)
+  where
+    go : (q : Bool) → a < c + cond q m 0 → a + 1 - c ≤ m
+    go true k = omega arith
+    go false k = omega arith
+
+whole : (a c m left s t o : ℕ) → left + s ≡ o → t + (a - c) ≡ s + (a + 1 - c) → T (openTo a c (roomOf left m)) → t ≤ o
+whole a c m left s t o l p h = go (ltb 0 left) refl (ltb→lt a (c + roomOf left m) h)
+  where
+    go : (q : Bool) → ltb 0 left ≡ q → a < c + cond q m 0 → t ≤ o
+    go true e k = omega (arith, ltb-true 0 left e)
+    go false e k = omega arith
+
+back : (a c m left s t o : ℕ) → left + s ≡ o → t + (a - c) ≡ s + (a + 1 - c) → a + 1 - c ≤ m → t ≤ o → T (openTo a c (roomOf left m))
+back a c m left s t o l p h k = lt→ltb a (c + roomOf left m) (go (ltb 0 left) refl)
+  where
+    go : (q : Bool) → ltb 0 left ≡ q → a < c + cond q m 0
+    go true e = omega arith
+    go false e = omega (arith, ltb-false 0 left e)
+
+module _ (g : Shape) (j : Job) (x : ℕ → ℕ → ℕ) (w : List ℕ) (s : SoFarWith g j x w) (layers : g .k ≡ j .layers) (e m l : ℕ) (edge : e < g .e)
+    (low : 1 ≤ l) (high : l ≤ g .k) where
+  once : occurs l (layersOf j e) ≡ 1
+  once = omega (arith, upFrom-once l 1 (j .layers), in-upFrom l 1 (j .layers) .1 (low, omega arith))
+
+  abbrev load : ℕ
+  load = getD w (loadsAt g + e * g .k + (l - 1)) 0
+
+  abbrev cap : ℕ
+  cap = getD w (e * g .k + (l - 1)) 0
+
+  abbrev left : ℕ
+  left = getD w (demandAt g + e) 0
+
+  -- a layer is open just where it is legal
+  open-legal : openTo load cap (roomOf left m) ≡ isLegal (layersOf j e) (capacity j e) (x e) m (flatOverflow j e) l
+  open-legal = rw (s .loads e l edge low high, s .capacities .caps e l edge low high) (test-eq _ _ there→ back→)
+    where
+      there→ : T (openTo (x e l) (capacity j e l) (roomOf left m)) → T (isLegal (layersOf j e) (capacity j e) (x e) m (flatOverflow j e) l)
+      there→ h = →isLegal (layersOf j e) (capacity j e) (x e) m (flatOverflow j e) l (record {
+        there = omega (arith, there (x e l) (capacity j e l) m left h, put-same l (x e));
+        whole = whole (x e l) (capacity j e l) m left _ _ (flatOverflow j e) (s .left e edge) (sum-over-put (layersOf j e) (capacity j e) (x e) l once) h;
+      })
+
+      back→ : T (isLegal (layersOf j e) (capacity j e) (x e) m (flatOverflow j e) l) → T (openTo (x e l) (capacity j e l) (roomOf left m))
+      back→ h =
+          let k = isLegal→ (layersOf j e) (capacity j e) (x e) m (flatOverflow j e) l h in
+          back (x e l) (capacity j e l) m left _ _ (flatOverflow j e) (s .left e edge) (sum-over-put (layersOf j e) (capacity j e) (x e) l once)
+          (omega (arith, k .there, put-same l (x e))) (k .whole)
+
+  -- bit l − 1 says whether layer l is legal
+  pub legal-bit : bitOf (legalMask g w e m) (l - 1) ≡ isLegal (layersOf j e) (capacity j e) (x e) m (flatOverflow j e) l
+  unfolding legalMask
+  legal-bit =
+      let z : 0 + (l - 1) ≡ l - 1 = omega arith in
+      bits-up (openAt g w e m) 0 (g .k) (l - 1) (omega arith) ∙ ap (openAt g w e m) z ∙ open-legal
+
+  pub bit-legal : bitOf (legalMask g w e m) (l - 1) ≡ true → Legal (layersOf j e) (capacity j e) (x e) m (flatOverflow j e) l
+  bit-legal h = isLegal→ (layersOf j e) (capacity j e) (x e) m (flatOverflow j e) l (subst T (sym h ∙ legal-bit) tt)
+
+-- a layer is among the legal ones at a turn just where its bit is set
+pub legal-in : (g : Shape) (j : Job) (plan : List (List ℕ)) (w : List ℕ) → SoFar g j plan w → g .k ≡ j .layers → (e l : ℕ) → e < g .e → 1 ≤ l → l ≤ g .k
+    → (bitOf (legalMask g w e (limit j)) (l - 1) ≡ true) ↔ In l (legal j plan e)
+unfolding legal
+legal-in g j plan w s layers e l edge low high =
+    let k = in-keep (isLegal (layersOf j e) (capacity j e) (placed j plan e) (limit j) (flatOverflow j e)) l (layersOf j e) in
+    let b = legal-bit g j (placed j plan) w s layers e (limit j) l edge low high in (
+      λ h. k .1 (in-upFrom l 1 (j .layers) .1 (low, omega arith), subst T (sym h ∙ b) tt),
+      λ i. b ∙ is-true _ (k .0 i .1),
+    )

@@ -1,0 +1,5 @@
+pub mod Places
+pub mod FlatPlan
+pub mod Masks
+pub mod Legal
+pub mod Occupied
