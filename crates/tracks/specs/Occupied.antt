@@ -3,7 +3,7 @@
 use mathlib.Core.Bool.{Bool, true, false}
 use mathlib.Core.List.{List, [], _∷_}
 use mathlib.Core.Logic.{_⊎_, inl, inr, ⊎-elim, _≢_}
-use mathlib.Core.Path.{_≡_, refl, sym, ap, _∙_, subst, fun-ext}
+use mathlib.Core.Path.{_≡_, refl, sym, ap, ap₂, _∙_, subst, fun-ext}
 use Prim.Native.Nat.{ℕ, _+_, _-_, _*_, _≤_, _<_}
 use native.Mathlib.Omega.{arith}
 use borrow.Author.Tests.{leb-true, leb-false}
@@ -21,7 +21,7 @@ use Rattle.net.specs.SoFar.{Capacities, SoFarWith}
 use Rattle.theory.specs.congestion.Base.{upFrom-once, in-upFrom}
 use Rattle.theory.specs.congestion.Edge.{Legal, put-same, sum-over-put}
 use Rattle.theory.specs.congestion.Loads.{mark-one, mark-none}
-use Rattle.theory.specs.congestion.Sums.{same-cases, sum-eq}
+use Rattle.theory.specs.congestion.Sums.{same-cases, same-refl, sum-eq}
 use Rattle.tracks.specs.Places.{edge-room, apart}
 
 -- 1 where a layer is full
@@ -93,3 +93,91 @@ module _ (g : Shape) (w : List ℕ) (e l : ℕ) (edge : e < g .e) (low : 1 ≤ l
   pub occupied-long : length (occupied g w e l) ≡ length w
   unfolding occupied
   occupied-long = length-set (set w (demandAt g + e) (leftAfter g w e l)) (loadPlace g e l) (getD w (loadPlace g e l) 0 + 1) ∙ long
+
+-- a and c are the nets and the capacity of the layer, s the edge's overflows together, t the same with one more net there, and `left` what o has left
+left-next : (a c left s t o : ℕ) → left + s ≡ o → t + (a - c) ≡ s + (a + 1 - c) → t ≤ o → left - fullOf a c + t ≡ o
+left-next a c left s t o p q h = go (leb c a) refl
+  where
+    go : (b : Bool) → leb c a ≡ b → left - bit b + t ≡ o
+    go true e = omega (arith, leb-true c a e)
+    go false e = omega (arith, leb-false c a e)
+
+module _ (g : Shape) (j : Job) (x : ℕ → ℕ → ℕ) (w : List ℕ) (s : SoFarWith g j x w) (layers : g .k ≡ j .layers) (e l m : ℕ) (edge : e < g .e) (low : 1 ≤ l)
+    (high : l ≤ g .k) (good : Legal (layersOf j e) (capacity j e) (x e) m (flatOverflow j e) l) where
+  -- the overflows of the edge with one more net on the layer
+  more : sumOver (layersOf j e) (capacity j e) (put l (x e)) + over (capacity j e l) (x e l) ≡ sumOver (layersOf j e) (capacity j e) (x e) + over (capacity j e l) (x e l + 1)
+  more =
+      sum-over-put (layersOf j e) (capacity j e) (x e) l
+      (omega (arith, upFrom-once l 1 (j .layers), in-upFrom l 1 (j .layers) .1 (low, omega arith)))
+
+  -- a legal layer can take one more net
+  pub legal-free : x e l ≤ mostNets → Free g w e l
+  legal-free few = record {
+    few = omega (arith, s .loads e l edge low high);
+    left = λ h. omega (arith, s .loads e l edge low high, s .capacities .caps e l edge low high, s .left e edge, more, good .whole);
+  }
+
+  -- and with it the numbers hold one net more there
+  pub occupied-with : demandAt g + g .e ≤ length w → SoFarWith g j (oneMore e l x) (occupied g w e l)
+  occupied-with room = record {
+    capacities = record {
+      caps = λ a b h p q. kept (capPlace g a b) (λ r. omega (arith, edge-room g a h)) (λ r. omega (arith, edge-room g a h)) ∙ s .capacities .caps a b h p q;
+    };
+    loads = λ a b h p q. load-at a b h p q (same-cases a e) (same-cases l b);
+    left = λ a h. left-at a h (same-cases a e);
+  }
+    where
+      kept : (i : ℕ) → i ≢ loadPlace g e l → i ≢ demandAt g + e → getD (occupied g w e l) i 0 ≡ getD w i 0
+      kept = others-kept g w e l edge low high room
+
+      -- the nets of a layer stand below every edge's overflow left
+      under : (a b i : ℕ) → a < g .e → 1 ≤ b → b ≤ g .k → loadPlace g a b ≢ demandAt g + i
+      under a b i h p q r = omega (arith, edge-room g a h)
+
+      other : (a b : ℕ) → a < g .e → 1 ≤ b → b ≤ g .k → (a ≢ e) ⊎ (b - 1 ≢ l - 1) → same a e * same l b ≡ 0
+          → getD (occupied g w e l) (loadPlace g a b) 0 ≡ x a b + same a e * same l b
+      other a b h p q n z =
+          omega (
+            arith,
+            kept (loadPlace g a b) (λ r. apart (g .k) a e (b - 1) (l - 1) (omega arith) (omega arith) n (omega arith)) (under a b e h p q),
+            s .loads a b h p q,
+          )
+
+      load-at : (a b : ℕ) → a < g .e → 1 ≤ b → b ≤ g .k → ((a ≡ e) × (same a e ≡ 1)) ⊎ ((a ≢ e) × (same a e ≡ 0))
+          → ((l ≡ b) × (same l b ≡ 1)) ⊎ ((l ≢ b) × (same l b ≡ 0)) → getD (occupied g w e l) (loadPlace g a b) 0 ≡ x a b + same a e * same l b
+      load-at a b h p q (inl c) (inl d) =
+          let i : loadPlace g a b ≡ loadPlace g e l = λ k. loadPlace g (c .0 k) (sym (d .0) k) in
+          let v : x a b ≡ x e l = λ k. x (c .0 k) (sym (d .0) k) in
+          omega (
+            arith,
+            ap (λ (n : ℕ). getD (occupied g w e l) n 0) i,
+            load-here g w e l edge low high room,
+            s .loads e l edge low high,
+            v,
+            mark-one a e (same l b) (c .1),
+            d .1,
+          )
+      load-at a b h p q (inl c) (inr d) = other a b h p q (inr (λ r. d .0 (omega arith))) (omega (arith, mark-one a e (same l b) (c .1), d .1))
+      load-at a b h p q (inr c) d = other a b h p q (inl (c .0)) (mark-none a e (same l b) (c .1))
+
+      left-at : (a : ℕ) → a < g .e → ((a ≡ e) × (same a e ≡ 1)) ⊎ ((a ≢ e) × (same a e ≡ 0))
+          → getD (occupied g w e l) (demandAt g + a) 0 + sumOver (layersOf j a) (capacity j a) (oneMore e l x a) ≡ flatOverflow j a
+      left-at a h (inl c) =
+          subst (λ (n : ℕ). getD (occupied g w e l) (demandAt g + n) 0 + sumOver (layersOf j n) (capacity j n) (oneMore e l x n) ≡ flatOverflow j n) (sym (c .0))
+          (omega (
+            arith,
+            left-here g w e l edge low high room,
+            ap₂ (λ (n k : ℕ). getD w (demandAt g + e) 0 - fullOf n k) (s .loads e l edge low high) (s .capacities .caps e l edge low high),
+            left-next (x e l) (capacity j e l) (getD w (demandAt g + e) 0) (sumOver (layersOf j e) (capacity j e) (x e)) (sumOver (layersOf j e) (capacity j e) (put l (x e))) (flatOverflow j e)
+                (s .left e edge) more (good .whole),
+            sum-eq (λ b. over (capacity j e b) (oneMore e l x e b)) (λ b. over (capacity j e b) (put l (x e) b)) (layersOf j e)
+                (λ b i. let r : oneMore e l x e b ≡ put l (x e) b = omega (arith, mark-one e e (same l b) (same-refl e)) in ap (over (capacity j e b)) r),
+          ))
+      left-at a h (inr c) =
+          omega (
+            arith,
+            kept (demandAt g + a) (λ r. under e l a edge low high (sym r)) (λ r. c .0 (omega arith)),
+            s .left a h,
+            sum-eq (λ b. over (capacity j a b) (oneMore e l x a b)) (λ b. over (capacity j a b) (x a b)) (layersOf j a)
+                (λ b i. let r : oneMore e l x a b ≡ x a b = omega (arith, mark-none a e (same l b) (c .1)) in ap (over (capacity j a b)) r),
+          )
