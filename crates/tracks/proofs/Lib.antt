@@ -1,3 +1,4 @@
 mod Fill
 mod Turns
 mod Layers
+mod Occupying

@@ -3,3 +3,4 @@ pub mod FlatPlan
 pub mod Masks
 pub mod Legal
 pub mod Occupied
+pub mod OccupiedAll

@@ -4,7 +4,7 @@ use layout::Shape;
 ghost use mathlib.Core.Path.{_≡_};
 ghost use Prim.Native.Nat.{ℕ, _+_, _-_, _*_, _^_, _<_, _≤_, max};
 ghost use lib.ListN.{length, getD, replicate};
-ghost use Rattle.layout.specs.Areas.{loadsAt, demandAt, flatAt, tilesAt};
+ghost use Rattle.layout.specs.Areas.{loadsAt, demandAt, flatAt, tilesAt, areasEnd};
 ghost use Rattle.layout.specs.Parts.{Outside};
 ghost use Rattle.layout.specs.Shapes.{Shaped};
 ghost use Rattle.model.specs.Job.{Job, edgeCount};
@@ -17,6 +17,7 @@ ghost use Rattle.tracks.specs.FlatPlan.{FlatCapacities, FlatDemands, Ove
 ghost use Rattle.tracks.specs.Legal.{roomOf, openTo, openIn, legalMask};
 ghost use Rattle.tracks.specs.Masks.{bitsUp};
 ghost use Rattle.tracks.specs.Occupied.{fullOf, occupied, Free};
+ghost use Rattle.tracks.specs.OccupiedAll.{edgesOf, layersIn, occupiedAll, CanTake};
 
 // TO and MO of the flat plan.
 pub struct Flat {
@@ -194,6 +195,22 @@ pub fn occupy(w: &mut [u32], g: Shape, edge: usize, layer: usize)
     let rest = w[left] - full_of(nets, w[cap]);
     w[left] = rest;
     w[load] = nets + 1;
+}
+
+// One more net, with n tiles in its walk: the edge above each but the first, on the layer chosen for it.
+pub fn occupy_all(w: &mut [u32], g: Shape, n: usize)
+    requires { ⌜ Shaped g ⌝ }
+    requires { ⌜ (n ≤ g .t) × (areasEnd g ≤ length (now w)) ⌝ }
+    requires { ⌜ CanTake g (now w) (edgesOf g n (now w)) (layersIn g n (now w)) ⌝ }
+    ensures { λ _. ⌜ now (w .exit) ≡ occupiedAll g (now (w .entry)) (edgesOf g n (now (w .entry))) (layersIn g n (now (w .entry))) ⌝ }
+{
+    let above = layout::above_at(g);
+    let layers = layout::engine_at(g) + 3 * g.t;
+    for i in 1..n {
+        let edge = w[above + i] as usize;
+        let layer = w[layers + i] as usize;
+        occupy(w, g, edge, layer);
+    }
 }
 
 // Zeroes the whole slice.
