@@ -19,11 +19,11 @@ use Rattle.theory.specs.engine.Loops.{comb}
 use Rattle.theory.specs.engine.Places.{TableAt, kidsOf, aboveOf}
 use Rattle.theory.specs.links.Best.{from-walk, best-legal}
 use Rattle.theory.specs.links.Engine.{kidsAt, firstAt, pinsAt, viasAt, found-is-best, table-vias}
-use Rattle.engine.specs.Mask.{withLayer, maskOf, has, IsSet}
-use Rattle.engine.specs.Rows.{illegalCost, rowAt, LeastCost, RowEntry, firstIn, branchesIn, pinsIn, legalIn, rootBranches, Shape, RowsFrom}
+use Rattle.costs.specs.Mask.{withLayer, maskOf, has, IsSet}
+use Rattle.costs.specs.Rows.{illegalCost, rowAt, LeastCost, RowEntry, firstIn, branchesIn, pinsIn, legalIn, rootBranches, Shape, RowsFrom}
 use Rattle.engine.specs.Layers.{FirstCombination, FirstStands, layerIn, RootLeast, ChosenUpTo}
 use Rattle.engine.specs.Net.{Holds, Placed}
-use Rattle.engine.proofs.Rows.{rows-read, drop-more}
+use Rattle.costs.specs.Kept.{rows-read, drop-more}
 use Rattle.engine.proofs.Table.{steps, first-is, kids-is, first-le, shape-of, tile-choice, table-at}
 
 take-none : (k : ℕ) → take {A = ℕ} k [] ≡ []

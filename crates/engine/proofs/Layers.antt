@@ -12,10 +12,11 @@ use Rattle.theory.specs.congestion.Sums.{lt-or-ge}
 use Rattle.theory.specs.engine.Branches.{below}
 use Rattle.theory.specs.engine.Loops.{comb, Turn, HasTurn, FirstTurn}
 use Rattle.theory.specs.engine.Table.{Agree}
-use Rattle.engine.specs.Mask.{withLayer}
-use Rattle.engine.specs.Rows.{illegalCost, rowAt, combinationCost, layersTried, LeastCost, firstIn, branchesIn, pinsIn, rootBranches, Shape, RowsFrom}
+use Rattle.costs.specs.Mask.{withLayer}
+use Rattle.costs.specs.Rows.{illegalCost, rowAt, combinationCost, layersTried, LeastCost, firstIn, branchesIn, pinsIn, rootBranches, Shape, RowsFrom}
 use Rattle.engine.specs.Layers.{Attained, FirstCombination, FirstWritten, FirstStands, layerIn, Usable, RootLeast, RootReady, RootChosen, TileReady, TileChosen, ChosenUpTo}
-use Rattle.engine.proofs.Rows.{cost-kept, least-kept, same-drop, same-take, tried-all, tried-one}
+use Rattle.costs.specs.Kept.{cost-kept, least-kept, same-drop, same-take, tried-le}
+use Rattle.costs.specs.Combinations.{comb-length}
 
 -- ---- as code has it
 
@@ -74,9 +75,6 @@ below-part f first (l ∷ ls) (suc q) h =
     let e : first + suc q ≡ suc first + q = omega arith in
     omega (arith, ap (λ (t : ℕ). f t (getD ls q 0)) e, below-part f (suc first) ls q (omega arith))
 
-comb-length : (k a b c : ℕ) → k ≤ 3 → length (comb k a b c) ≡ k
-comb-length k a b c h = length-take-le k (a ∷ b ∷ c ∷ []) h
-
 comb-part : (K k a b c q : ℕ) → (1 ≤ a) × (a ≤ K) → (1 ≤ b) × (b ≤ K) → (1 ≤ c) × (c ≤ K) → q < k → q < 3
     → (1 ≤ getD (comb k a b c) q 0) × (getD (comb k a b c) q 0 ≤ K)
 comb-part K k a b c q x y z h h′ = rw (getD-take k (a ∷ b ∷ c ∷ []) q 0 h) (go q h′)
@@ -88,13 +86,6 @@ comb-part K k a b c q x y z h h′ = rw (getD-take k (a ∷ b ∷ c ∷ []) q 0 
     go (suc (suc (suc q))) h = absurd (omega arith)
 
 -- ---- all layers
-
-tried-le : (j k K : ℕ) → 1 ≤ K → layersTried j k K ≤ K
-tried-le j k K h = go (lt-or-ge k j)
-  where
-    go : (k < j) ⊎ (j ≤ k) → layersTried j k K ≤ K
-    go (inl c) = omega (arith, h, tried-one j k K c)
-    go (inr c) = omega (arith, tried-all j k K c)
 
 agree-up : (w w′ : List ℕ) (m : ℕ) → drop (4 * m) w′ ≡ drop (4 * m) w → (c : ℕ) → Agree (rowAt w′ (4 * m)) (rowAt w (4 * m)) c
 agree-up w w′ m e c j h r = same-drop (4 * m) w w′ e (4 * m + 8 * j + (r - 1)) (omega arith)
@@ -231,7 +222,7 @@ module _ (w : List ℕ) (m n K v : ℕ) (s : Shape w m n K) (rows : RowsFrom w w
       rising = omega (arith, e₁, e₂, s .rising i one less);
       few = omega (arith, e₁, e₂, s .few i one less);
       within = omega (arith, e₂, s .within i less, s .fits);
-      pins = omega (arith, e₃, s .pins i less);
+      pins = omega (arith, e₃, s .pins i less .small);
       layer = usable-here .0;
       high = usable-here .1;
       attained =
@@ -330,24 +321,9 @@ root-ready w m n K v s least small = record {
   start = s .start;
   few = s .root-few;
   within = omega (arith, s .within 0 (s .tiles), s .fits);
-  pins = let e : m + 0 ≡ m = omega arith in subst (λ (x : ℕ). getD w x 0 < 256) e (s .pins 0 (s .tiles));
+  pins = let e : m + 0 ≡ m = omega arith in subst (λ (x : ℕ). getD w x 0 < 256) e (s .pins 0 (s .tiles) .small);
   attained = least-attained w (4 * m) 1 (rootBranches w) K (getD w m 0) v least small;
 }
-
--- the root's numbers as code reads them
-module _ (w : List ℕ) (m n K x y : ℕ) (s : Shape w m n K) (ex : x ≡ getD w 0 0) (ey : y ≡ getD w m 0) where
-  root-pins : y < 256
-  root-pins = let e : m + 0 ≡ m = omega arith in omega (arith, ey, subst (λ (t : ℕ). getD w t 0 < 256) e (s .pins 0 (s .tiles)))
-
-  pub root-asks : (x - 1 ≤ 3) × ((y < 256) × (((1 ≤ K) × (K ≤ 8)) × (((1 ≤ 65536) × (4 * m ≤ 16777216)) × (4 * m + 8 * (1 + (x - 1)) ≤ length w))))
-  root-asks =
-      let h = s .within 0 (s .tiles) in (
-        omega (arith, ex, s .root-few),
-        (root-pins, ((s .some, s .deep), ((omega arith, omega (arith, s .small)), omega (arith, ex, s .start, h, s .fits, s .room)))),
-      )
-
-  pub root-least-is : (v : ℕ) → LeastCost w (4 * m) 1 (x - 1) K y v → RootLeast w m K v
-  root-least-is v t = rw (← ex, ← ey) t
 
 pub chosen-all : (w w′ : List ℕ) (m n K v i : ℕ) → i ≡ n → ChosenUpTo w w′ m n K v i → ChosenUpTo w w′ m n K v n
 chosen-all w w′ m n K v i e p = subst (λ (x : ℕ). ChosenUpTo w w′ m n K v x) e p

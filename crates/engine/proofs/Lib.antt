@@ -1,5 +1,4 @@
-mod CombinationCost
-mod Rows
+mod Branches
 mod Layers
 mod Table
 mod Best

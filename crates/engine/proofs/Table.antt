@@ -24,11 +24,12 @@ use Rattle.theory.specs.engine.Places.{RowsAt, TableAt, kidsOf, IsWalk}
 use Rattle.theory.specs.engine.Bounds.{root-bound}
 use Rattle.theory.specs.links.Nets.{NetOk}
 use Rattle.theory.specs.links.Best.{LegalFor, inWalk}
-use Rattle.theory.specs.links.Engine.{kidsAt, firstAt, pinsAt, viasAt, walk-by-place, kids-few, kids-are, legal-iff, legal-choice, legal-rising, rows-small, loops-row, loops-choice, via-costs}
-use Rattle.engine.specs.Mask.{has, withLayer, maskOf, spanOf, mask-price}
-use Rattle.engine.specs.Rows.{illegalCost, rowAt, combinationCost, layersTried, LeastCost, RowEntry, firstIn, branchesIn, Shape, RowsFrom}
+use Rattle.theory.specs.links.Engine.{kidsAt, firstAt, pinsAt, viasAt, walk-by-place, kids-few, kids-are, legal-iff, legal-choice, legal-rising, rows-small, loops-row, loops-choice, via-costs, pins-cover, stopAt}
+use Rattle.costs.specs.Mask.{has, withLayer, maskOf, spanOf, mask-price}
+use Rattle.costs.specs.Rows.{illegalCost, rowAt, combinationCost, layersTried, LeastCost, RowEntry, firstIn, branchesIn, Shape, RowsFrom}
 use Rattle.engine.specs.Net.{Holds}
-use Rattle.engine.proofs.Rows.{tried-all, tried-one, least-cong}
+use Rattle.costs.specs.Kept.{tried-all, tried-one, tried-le, least-cong}
+use Rattle.costs.specs.Combinations.{covers-none, covers-comb}
 
 -- ---- combinations
 
@@ -38,13 +39,6 @@ tried-some j k K h = go (lt-or-ge k j)
     go : (k < j) ⊎ (j ≤ k) → 1 ≤ layersTried j k K
     go (inl c) = omega (arith, tried-one j k K c)
     go (inr c) = omega (arith, h, tried-all j k K c)
-
-tried-le : (j k K : ℕ) → 1 ≤ K → layersTried j k K ≤ K
-tried-le j k K h = go (lt-or-ge k j)
-  where
-    go : (k < j) ⊎ (j ≤ k) → layersTried j k K ≤ K
-    go (inl c) = omega (arith, h, tried-one j k K c)
-    go (inr c) = omega (arith, tried-all j k K c)
 
 pub reach-of : (K k : ℕ) → 1 ≤ K → k ≤ 3 → Reach K k (layersTried 1 k K) (layersTried 2 k K) (layersTried 3 k K)
 reach-of K k h f = record {
@@ -56,18 +50,6 @@ reach-of K k h f = record {
   all₂ = λ c. sym (tried-all 2 k K c);
   all₃ = λ c. sym (tried-all 3 k K c);
 }
-
-covers-none : (a b : ℕ) → Covers a b []
-covers-none a b x i = absurd (omega arith)
-
-covers-comb : (k a b c : ℕ) → (1 ≤ a) × (a ≤ 8) → (1 ≤ b) × (b ≤ 8) → (1 ≤ c) × (c ≤ 8) → Covers 1 8 (comb k a b c)
-covers-comb zero a b c p q r = covers-none 1 8
-covers-comb (suc zero) a b c p q r = covers-cons 1 8 a [] (p .0) (p .1) (covers-none 1 8)
-covers-comb (suc (suc zero)) a b c p q r = covers-cons 1 8 a (b ∷ []) (p .0) (p .1) (covers-cons 1 8 b [] (q .0) (q .1) (covers-none 1 8))
-covers-comb (suc (suc (suc zero))) a b c p q r =
-    covers-cons 1 8 a (b ∷ c ∷ []) (p .0) (p .1) (covers-cons 1 8 b (c ∷ []) (q .0) (q .1) (covers-cons 1 8 c [] (r .0) (r .1) (covers-none 1 8)))
-covers-comb (suc (suc (suc (suc k)))) a b c p q r =
-    covers-cons 1 8 a (b ∷ c ∷ []) (p .0) (p .1) (covers-cons 1 8 b (c ∷ []) (q .0) (q .1) (covers-cons 1 8 c [] (r .0) (r .1) (covers-none 1 8)))
 
 mask-append : (m : ℕ) (xs ys : List ℕ) → maskOf (maskOf m xs) ys ≡ maskOf m (xs ++ ys)
 mask-append m [] ys = refl
@@ -143,7 +125,12 @@ module _ (j : Job) (n : Net) (plan : List (List ℕ)) (w : List ℕ) (m : ℕ) (
     rising = λ i p q. omega (arith, first-is i p (omega arith), holds .ends i (omega arith), steps .next i (omega arith));
     few = λ i p q. omega (arith, first-is i p (omega arith), holds .ends i (omega arith), steps .next i (omega arith), kids-few j wide high n ok i (omega arith));
     within = λ i q. omega (arith, holds .ends i (omega arith), first-le (d - i) (suc i) (omega arith));
-    pins = λ i q. holds .pins i (omega arith) .small;
+    pins = λ i q.
+        let h = holds .pins i (omega arith) in
+        record {
+          small = h .small;
+          deep = λ l a b t. pins-cover (stopAt j n i .tile) (n .pins) (ok .pins-layers) l (h .into l a b t) .1;
+        };
   }
 
   -- and after the rows are written
@@ -196,7 +183,7 @@ module _ (j : Job) (n : Net) (plan : List (List ℕ)) (w : List ℕ) (m : ℕ) (
             arith,
             ap spanOf (mask-append (mask i) above ls),
             mask-price (mask i) (pinsAt j n i) (above ++ ls)
-                (covers-join above ls cov (covers-comb (kidsAt j n i) a b c (t .0, omega (arith, k₁, t .1, deep)) (t .2, omega (arith, k₂, t .3, deep)) (t .4, omega (arith, k₃, t .5, deep))))
+                (covers-join above ls cov (covers-comb 1 8 (kidsAt j n i) a b c (t .0, omega (arith, k₁, t .1, deep)) (t .2, omega (arith, k₂, t .3, deep)) (t .4, omega (arith, k₃, t .5, deep))))
                 (holds .pins i h),
           )
 

@@ -2,13 +2,22 @@
 -- "So at each tile, given the layer of the edge above it, the branches take the first combination, in rising order, that reaches this least cost."
 -- Assumes nothing.
 use mathlib.Core.Path.{_≡_}
+use mathlib.Core.Bool.{cond}
 use mathlib.Core.List.{List}
 use Prim.Native.Nat.{ℕ, _+_, _-_, _*_, _≤_, _<_}
+use lib.Dec.{ltb}
 use lib.ListN.{getD, length, take, drop}
 use lib.Seq.{sets, slice}
 use Rattle.theory.specs.engine.Loops.{comb, HasTurn, FirstTurn}
-use Rattle.engine.specs.Mask.{withLayer}
-use Rattle.engine.specs.Rows.{illegalCost, rowAt, combinationCost, layersTried, LeastCost, firstIn, branchesIn, pinsIn, rootBranches}
+use Rattle.costs.specs.Mask.{withLayer}
+use Rattle.costs.specs.Rows.{illegalCost, rowAt, combinationCost, layersTried, LeastCost, firstIn, branchesIn, pinsIn, rootBranches}
+
+-- what branch c of a tile's k branches, counted from 0, adds on layer l + 1: its cost, and its layer to the tile's set; nothing where there is no such branch
+abbrev pub branchCost : List ℕ → ℕ → ℕ → ℕ → ℕ → ℕ → ℕ
+branchCost w o first k c l = cond (ltb c k) (getD w (o + 8 * (first + c) + l) 0) 0
+
+abbrev pub branchMask : ℕ → ℕ → ℕ → ℕ → ℕ
+branchMask mask k c l = cond (ltb c k) (withLayer mask (l + 1)) mask
 
 -- some combination costs v
 abbrev pub Attained : List ℕ → ℕ → ℕ → ℕ → ℕ → ℕ → ℕ → Type 0

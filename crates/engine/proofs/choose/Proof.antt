@@ -7,7 +7,7 @@ use Prim.Native.Nat.{ℕ, _-_, _≤_, _<_}
 use native.Mathlib.Omega.{arith}
 use borrow.Author.Needs.{needs}
 use lib.ListN.{length}
-use Rattle.engine.specs.Rows.{illegalCost, Shape, RowsFrom}
+use Rattle.costs.specs.Rows.{illegalCost, Shape, RowsFrom}
 use Rattle.engine.specs.Layers.{ChosenUpTo}
 use Rattle.engine.proofs.Layers.{root-ready, chosen-start, chosen-step, tile-ready, chosen-all}
 use Rattle.engine.proofs.choose.Statement.{statement}

@@ -1,6 +1,6 @@
 -- `layers_tried` meets its contract.
 -- Assumes nothing.
-use Rattle.engine.proofs.Rows.{tried-all, tried-one}
+use Rattle.costs.specs.Kept.{tried-all, tried-one}
 use native.Mathlib.Omega.{arith}
 use Rattle.engine.proofs.layers_tried.Statement.{statement}
 use Rattle.engine.proofs.layers_tried.Tie as tie

@@ -2,7 +2,7 @@
 -- Assumes nothing.
 use borrow.Author.Needs.{needs}
 use Rattle.engine.proofs.Best.{net-shape, rows-self, holds-kept, net-small, net-placed}
-use Rattle.engine.proofs.Rows.{shape-kept}
+use Rattle.costs.specs.Kept.{shape-kept}
 use Rattle.engine.proofs.place_layers.Statement.{statement}
 use Rattle.engine.proofs.place_layers.Tie as tie
 

@@ -1,0 +1,32 @@
+-- `leaf_costs` meets its contract.
+-- Assumes nothing.
+use mathlib.Core.Path.{_≡_, refl, _∙_, ap}
+use Prim.Native.Nat.{suc, _-_}
+use native.Mathlib.Omega.{arith}
+use native.Mathlib.Numerals.{add-one}
+use borrow.Author.Needs.{needs}
+use Rattle.costs.specs.Mask.{withLayer, spanOf}
+use Rattle.costs.specs.Rows.{Eight}
+use Rattle.costs.proofs.Steps.{eight-none, eight-more, eight-all}
+use Rattle.costs.proofs.leaf_costs.Statement.{statement}
+use Rattle.costs.proofs.leaf_costs.Tie as tie
+
+abbrev Inv-loop : tie.InvT-loop
+Inv-loop layers pins c₀ l₀ c l = Eight c (λ t. spanOf (withLayer pins (suc t))) 0 l
+
+abbrev μ-loop : tie.MeasureT-loop
+μ-loop layers pins c₀ l₀ c l = layers - l
+
+loop-again : tie.Need-loop-again Inv-loop μ-loop
+loop-again c =
+    eight-more _ _ _ _ _ (omega arith)
+    (c .span .ensures .0 ∙ ap spanOf (c .before .with-layer .ensures .0 ∙ ap (withLayer (c .before .before .before .before .args .pins)) (add-one (c .before .before .before .loop .l)))) (c .before .before .before .loop .inv)
+
+pub leaf-costs-spec : {M : Type 1} → statement M
+leaf-costs-spec =
+    tie.close
+    (tie.spec Inv-loop μ-loop
+    (λ c. eight-none _ _ _ refl)
+    (λ c. search needs) (λ c κs. search needs) (λ c κs. search needs) (λ c. search needs) (λ c. search needs) (λ c. search needs) (λ c. search needs)
+    loop-again
+    (λ c. eight-all _ _ _ _ _ (omega arith) (c .before .loop .inv)))

@@ -1,0 +1,7 @@
+pub mod Computed
+pub mod Mask
+pub mod Rows
+pub mod Kept
+pub mod Combinations
+pub mod Intervals
+pub mod Sweeps
