@@ -6,6 +6,7 @@ use Prim.Native.Nat.{ℕ, zero, suc, _+_, _-_, _*_, _≤_, _<_}
 use native.Mathlib.Nat.{not-suc-le-zero, suc-mul, zero-mul, add-zero}
 use native.Mathlib.Omega.{arith}
 use lib.ListN.{getD}
+use Rattle.model.specs.Job.{Job, capacity}
 use Rattle.layout.specs.declared.Shape.{Shape}
 use Rattle.lines.specs.Spread.{spread}
 
@@ -47,3 +48,7 @@ pub capacity-at : (g : Shape) (w : List ℕ) (e l : ℕ) → e < g .e → 1 ≤ 
 capacity-at g w e l h a b =
     sym (ap (λ (c : List ℕ). getD c e 0) (columns-at (g .k) (g .e) w 0 (g .k) (l - 1) (omega arith)) ∙ column-at (g .k) w (0 + (l - 1)) (g .e) e h
     ∙ ap (λ (p : ℕ). getD w p 0) (omega arith))
+
+pub capacity-in : (j : Job) (g : Shape) (w : List ℕ) → j .capacities ≡ capacitiesOf g w → (e l : ℕ) → e < g .e → 1 ≤ l → l ≤ g .k →
+    capacity j e l ≡ getD w (e * g .k + (l - 1)) 0
+capacity-in j g w c e l h a b = ap (λ (cs : List (List ℕ)). getD (getD cs (l - 1) []) e 0) c ∙ sym (capacity-at g w e l h a b)

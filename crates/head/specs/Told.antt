@@ -1,11 +1,12 @@
 -- What the answers of this crate's functions say, in the definitions' words.
 -- Assumes nothing.
-use mathlib.Core.Path.{_≡_}
+use mathlib.Core.Path.{_≡_, sym, ap, _∙_}
 use mathlib.Core.List.{List}
 use Prim.Native.Nat.{ℕ, _+_, _*_, _≤_}
 use lib.ListN.{length, drop}
 use Rattle.model.specs.Limits.{mostWeight, mostNets}
-use Rattle.model.specs.Read.{Result, refused, found, workingNeed}
+use Rattle.model.specs.Job.{Job}
+use Rattle.model.specs.Read.{Result, refused, found, next, Lent, workingNeed, read}
 use Rattle.layout.specs.Shapes.{Shaped}
 use Rattle.layout.specs.declared.Shape.{Shape}
 use Rattle.text.specs.Refusals.{placeOf}
@@ -16,7 +17,7 @@ use Rattle.lines.specs.declared.Field.the-variants.{Value, Refused}
 use Rattle.lines.specs.declared.Listed.{Listed}
 use Rattle.lines.specs.declared.Listed.the-variants.{Next, Refused as Unlisted}
 use Rattle.head.specs.Capacities.{capacitiesOf}
-use Rattle.head.specs.Reads.{HeadJob}
+use Rattle.head.specs.Reads.{HeadJob, headIn, restIn, read-splits}
 use Rattle.head.specs.declared.Weights.{Weights}
 use Rattle.head.specs.declared.Head.{Head}
 use Rattle.head.specs.declared.Sizes.{Sizes}
@@ -100,3 +101,9 @@ pub record Holds (size entries : ℕ) (w x : List ℕ) (h : Head) (c : Cursor) :
 abbrev pub headHolds : ℕ → ℕ → List ℕ → List ℕ → HeadRead → Type 0
 headHolds size entries w x (headed h c) = Holds size entries w x h c
 headHolds size entries w x (Unheaded r) = Unit {0}
+
+-- the definitions' reading of the whole text, once the head was read: the refusal, or the rest after it
+pub read-by : (lent : Lent) (s x : List ℕ) (r : HeadRead) →
+    headTold s x r ≡ headIn (length s) (lent .working) (lent .order) (record { line = 0; rest = s }) →
+    read lent s ≡ next (headTold s x r) (restIn lent)
+read-by lent s x r e = read-splits lent s ∙ ap (λ (t : Result HeadJob). next t (restIn lent)) (sym e)

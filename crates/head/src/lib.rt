@@ -18,6 +18,20 @@ ghost use Rattle.lines.specs.Told.{fieldTold, listTold, listIn, mapped};
 ghost use Rattle.head.specs.Reads.{stackIn, sizesIn, weightsIn, layerIn, netsIn, bodyIn, headIn};
 ghost use Rattle.head.specs.Told.{sizesTold, sizesHold, weightsTold, weightsHold, netsHold, capacitiesTold, beyondOf, headTold, headHolds};
 
+// "W = width and H = height, 1 to 64"
+const LEAST_SIDE: usize = 1;
+
+const MOST_SIDE: usize = 64;
+
+// "alpha, beta, gamma: 0 to 255"
+const MOST_WEIGHT: usize = 255;
+
+// "nets: N, 0 to 4,096"
+const MOST_NETS: usize = 4096;
+
+// "text above 1,048,576 bytes"
+const MOST_TEXT: usize = 1048576;
+
 pub struct Weights {
     pub alpha: usize,
     pub beta: usize,
@@ -69,9 +83,9 @@ fn read_sizes(s: &[u8], c: Cursor) -> Sizes
     ensures { λ r. ⌜ sizesTold (now (s .entry)) r ≡ sizesIn (placeOf (now (s .entry)) c) ⌝ }
     ensures { λ r. ⌜ sizesHold (length (now (s .entry))) (c .line + 3) r ⌝ }
 {
-    match lines::ranged(s, c, b"width=", 1, 64) {
+    match lines::ranged(s, c, b"width=", LEAST_SIDE, MOST_SIDE) {
         Field::Refused(r) => Sizes::Refused(r),
-        Field::Value(w, d) => match lines::ranged(s, d, b"height=", 1, 64) {
+        Field::Value(w, d) => match lines::ranged(s, d, b"height=", LEAST_SIDE, MOST_SIDE) {
             Field::Refused(r) => Sizes::Refused(r),
             Field::Value(h, e) => stack_line(s, e, w, h),
         },
@@ -84,11 +98,11 @@ fn read_weights(s: &[u8], c: Cursor) -> Weighed
     ensures { λ r. ⌜ weightsTold (now (s .entry)) r ≡ weightsIn (placeOf (now (s .entry)) c) ⌝ }
     ensures { λ r. ⌜ weightsHold (length (now (s .entry))) (c .line + 3) r ⌝ }
 {
-    match lines::ranged(s, c, b"alpha=", 0, 255) {
+    match lines::ranged(s, c, b"alpha=", 0, MOST_WEIGHT) {
         Field::Refused(r) => Weighed::Refused(r),
-        Field::Value(alpha, d) => match lines::ranged(s, d, b"beta=", 0, 255) {
+        Field::Value(alpha, d) => match lines::ranged(s, d, b"beta=", 0, MOST_WEIGHT) {
             Field::Refused(r) => Weighed::Refused(r),
-            Field::Value(beta, e) => match lines::ranged(s, e, b"gamma=", 0, 255) {
+            Field::Value(beta, e) => match lines::ranged(s, e, b"gamma=", 0, MOST_WEIGHT) {
                 Field::Refused(r) => Weighed::Refused(r),
                 Field::Value(gamma, f) => Weighed::Weights(Weights { alpha, beta, gamma }, f),
             },
@@ -102,7 +116,7 @@ fn nets_line(s: &[u8], c: Cursor, order: usize) -> Field
     ensures { λ r. ⌜ fieldTold (now (s .entry)) r ≡ netsIn order (placeOf (now (s .entry)) c) ⌝ }
     ensures { λ r. ⌜ netsHold (length (now (s .entry))) (c .line + 1) order r ⌝ }
 {
-    match lines::ranged(s, c, b"nets=", 0, 4096) {
+    match lines::ranged(s, c, b"nets=", 0, MOST_NETS) {
         Field::Refused(r) => Field::Refused(r),
         Field::Value(n, d) => {
             if order < n {
@@ -192,7 +206,7 @@ pub fn read_head(s: &[u8], w: &mut [u32], order: usize) -> HeadRead
     ensures { λ r. ⌜ headHolds (length (now (s .entry))) order (now (w .entry)) (now (w .exit)) r ⌝ }
     ensures { λ _. ⌜ length (now (w .exit)) ≡ length (now (w .entry)) ⌝ }
 {
-    if 1048576 < s.len() {
+    if MOST_TEXT < s.len() {
         return HeadRead::Refused(Refusal::TooLong);
     }
     match read_sizes(s, Cursor { at: 0, line: 0 }) {

@@ -15,6 +15,9 @@ ghost use Rattle.lines.specs.Spread.{kept, spread, Room};
 ghost use Rattle.lines.specs.Told.{fieldTold, fieldIn, listTold, listIn, mapped};
 ghost use Rattle.lines.specs.Entries.{endedAt, ender, listAt, listLine, finish};
 
+// "capacities, comma between, lowest y first, then lowest x, each 0 to 255"
+const MOST_CAPACITY: usize = 255;
+
 // A number and the place of the next line.
 pub enum Field {
     Value(usize, Cursor),
@@ -92,7 +95,7 @@ fn put(w: &mut [u32], to: usize, v: usize, inside: bool) -> bool
     ensures { λ r. ⌜ r ≡ (inside && leb v mostCapacity) ⌝ }
     ensures { λ _. ⌜ now (w .exit) ≡ kept (now (w .entry)) to v ⌝ }
 {
-    if 255 < v {
+    if MOST_CAPACITY < v {
         return false;
     }
     w[to] = v as u32;
