@@ -8,7 +8,9 @@ use native.Mathlib.Numerals.{add-one}
 use native.Mathlib.Omega.{arith}
 use lib.ListN.{length, drop, getD, set, length-append}
 use lib.Seq.{sets, drop-cons, drop-length}
-use Rattle.model.specs.Text.{decimal, decimals}
+use Rattle.model.specs.Calls.{refusal}
+use Rattle.model.specs.Program.{written}
+use Rattle.model.specs.Text.{bytes, decimal, decimals}
 use Rattle.theory.specs.links.Decimals.{decimal-one, decimal-parts}
 use Rattle.theory.specs.links.Room.{decimal-few}
 use Rattle.print.specs.Lists.{others, first-more, others-more}
@@ -83,3 +85,14 @@ module _ {from a : ℕ} {text w w′ : List ℕ} (xs : List ℕ) (i : ℕ) (h : 
 
 pub others-done : {from a : ℕ} {text w w′ : List ℕ} (xs : List ℕ) (i : ℕ) → i ≡ length xs → Left from text w a (others (drop i xs)) w′ → Wrote from text w w′ a
 others-done xs i e l = left-done (left-as (ap (λ (k : ℕ). others (drop k xs)) e ∙ ap others (drop-length xs)) l)
+
+-- ---- a refusal's line
+
+pub refusal-long : (n l : ℕ) → length (written (refusal n l)) ≡ 8 + length (decimal n) + 1 + length (decimal l) + 1
+refusal-long n l =
+    omega (
+      arith,
+      length-append (bytes "refused=" ++ (decimal n ++ (44 ∷ decimal l))) (10 ∷ []),
+      length-append (bytes "refused=") (decimal n ++ (44 ∷ decimal l)),
+      length-append (decimal n) (44 ∷ decimal l),
+    )

@@ -1,8 +1,62 @@
--- The texts that are written, over what the buffers hold.
+-- The texts that are written, over what the order, the net table and the answer list hold.
 -- Assumes nothing.
-use mathlib.Core.List.{List, [], _∷_, _++_}
-use Prim.Native.Nat.{ℕ}
+use mathlib.Core.List.{List, [], _∷_, _++_, map}
+use mathlib.Core.Path.{_≡_, refl, sym, ap, ap₂, _∙_}
+use Prim.Native.Nat.{ℕ, suc, _+_, _-_, _≤_, _<_}
+use native.Mathlib.Numerals.{add-one}
+use native.Mathlib.Omega.{arith}
+use lib.ListN.{length, take, getD}
+use Rattle.layout.specs.Parts.{part}
+use Rattle.layout.specs.Table.{firstColumn, countColumn, viasColumn}
+use Rattle.model.specs.Lists.{upFrom}
+use Rattle.model.specs.Print.{printLine, printNet, printNets}
 
 -- a key with its `=`, a text, byte 10
 abbrev pub line : List ℕ → List ℕ → List ℕ
 line key text = key ++ text ++ (10 ∷ [])
+
+-- ---- the nets of the table, counted from 0
+
+-- the vias of net i, and its layers: its stretch of the answer list
+abbrev pub viasOf : List ℕ → ℕ → ℕ
+viasOf table i = getD table (viasColumn i) 0
+
+abbrev pub layersOf : List ℕ → List ℕ → ℕ → List ℕ
+layersOf table answer i = part (getD table (firstColumn i) 0) (getD table (countColumn i) 0) answer
+
+-- its lines
+abbrev pub rowText : List ℕ → List ℕ → ℕ → List ℕ
+rowText table answer i = printNet (i + 1) (viasOf table i) (layersOf table answer i)
+
+-- the lines of k nets from net i on
+abbrev pub netsText : List ℕ → List ℕ → ℕ → ℕ → List ℕ
+netsText table answer i k = printNets (i + 1) (map (viasOf table) (upFrom i k)) (map (layersOf table answer) (upFrom i k))
+
+pub nets-more : (table answer : List ℕ) (i n : ℕ) → i < n
+    → netsText table answer i (n - i) ≡ rowText table answer i ++ netsText table answer (i + 1) (n - (i + 1))
+nets-more table answer i n h =
+    let e : n - i ≡ suc (n - (i + 1)) = omega arith in
+    ap (netsText table answer i) e ∙ ap₂ (λ (a b : ℕ). rowText table answer i ++ printNets a (map (viasOf table) (upFrom b (n - (i + 1)))) (map (layersOf table answer) (upFrom b (n - (i + 1))))) (omega arith) (sym (add-one i))
+
+pub nets-done : (table answer : List ℕ) (i n : ℕ) → i ≡ n → netsText table answer i (n - i) ≡ []
+nets-done table answer i n h = let e : n - i ≡ 0 = omega arith in ap (netsText table answer i) e
+
+-- the table has a row for net i, and its stretch is inside the answer list
+pub record RowInside (table answer : List ℕ) (i : ℕ) : Type 0 where
+  pub few : i < 4096
+  pub row : viasColumn i < length table
+  pub stretch : getD table (firstColumn i) 0 + getD table (countColumn i) 0 ≤ length answer
+
+abbrev pub Rows : ℕ → List ℕ → List ℕ → Type 0
+Rows n table answer = (i : ℕ) → i < n → RowInside table answer i
+
+-- ---- the whole print
+
+abbrev pub totalsText : ℕ → ℕ → ℕ → List ℕ
+totalsText vias total most =
+    printLine "total_vias" (vias ∷ []) ++ printLine "total_overflow" (total ∷ []) ++ printLine "max_overflow" (most ∷ [])
+
+-- the first n numbers of the order, the n nets of the table, the totals
+abbrev pub planText : ℕ → List ℕ → List ℕ → List ℕ → ℕ → ℕ → ℕ → List ℕ
+planText n order table answer vias total most =
+    printLine "order" (take n order) ++ netsText table answer 0 n ++ totalsText vias total most

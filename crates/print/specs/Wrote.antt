@@ -56,6 +56,10 @@ module _ {a : ℕ} {x w w′ : List ℕ} {m : ℕ} (one : Wrote a x w w′ m) wh
   pub wrote-as : {y : List ℕ} → x ≡ y → Wrote a y w w′ m
   wrote-as e = rw e at one
 
+-- a text from place 0 on
+pub from-start : {text w w′ : List ℕ} {r : ℕ} → Wrote 0 text w w′ r → (w′ ≡ sets w 0 text) × (r ≡ length text)
+from-start one = (one .buffer, omega (arith, one .next))
+
 -- the room for each of three texts one after another
 module _ (a : ℕ) (x y z w : List ℕ) (h : a + length (x ++ y ++ z) ≤ length w) where
   pub room-one : a + length x ≤ length w

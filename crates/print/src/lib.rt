@@ -1,11 +1,14 @@
 // The printed plan, or a refusal's line, written into a lent buffer. Every function writes a text from a place on, and returns the place behind it.
-ghost use mathlib.Core.List.{[], _∷_, _++_};
+ghost use mathlib.Core.List.{[], _∷_};
 ghost use mathlib.Core.Path.{_≡_};
-ghost use Prim.Native.Nat.{_+_, _≤_};
+ghost use Prim.Native.Nat.{_+_, _≤_, _<_};
 ghost use lib.ListN.{length};
+ghost use lib.Seq.{sets};
+ghost use Rattle.model.specs.Calls.{refusal};
 ghost use Rattle.model.specs.Print.{printLine, printNet};
+ghost use Rattle.model.specs.Program.{written};
 ghost use Rattle.model.specs.Text.{decimal, decimals};
-ghost use Rattle.print.specs.Texts.{line};
+ghost use Rattle.print.specs.Texts.{line, rowText, netsText, totalsText, planText, RowInside, Rows};
 ghost use Rattle.print.specs.Wrote.{Wrote};
 
 fn put_byte(b: &mut [u8], at: usize, x: u8) -> usize
@@ -138,4 +141,68 @@ fn put_net(b: &mut [u8], at: usize, i: usize, vias: u32, layers: &[u8]) -> usize
     let a = put_line(b, at, b"net=", i as u64);
     let c = put_line(b, a, b"vias=", vias as u64);
     put_layers(b, c, layers)
+}
+
+// ---- the nets, as the net table has them
+
+// The lines of the net at place i of the table, counted from 0: it has the number i + 1.
+fn put_row(b: &mut [u8], at: usize, i: usize, table: &[u32], answer: &[u8]) -> usize
+    requires { ⌜ RowInside (now table) (now answer) i ⌝ }
+    requires { ⌜ at + length (rowText (now table) (now answer) i) ≤ length (now b) ⌝ }
+    ensures { λ r. ⌜ Wrote at (rowText (now (table .entry)) (now (answer .entry)) i) (now (b .entry)) (now (b .exit)) r ⌝ }
+{
+    let first = table[layout::first_column(i)] as usize;
+    let count = table[layout::count_column(i)] as usize;
+    let vias = table[layout::vias_column(i)];
+    put_net(b, at, i + 1, vias, &answer[first..first + count])
+}
+
+// The lines of all n nets.
+fn put_nets(b: &mut [u8], from: usize, n: usize, table: &[u32], answer: &[u8]) -> usize
+    requires { ⌜ Rows n (now table) (now answer) ⌝ }
+    requires { ⌜ from + length (netsText (now table) (now answer) 0 n) ≤ length (now b) ⌝ }
+    ensures { λ r. ⌜ Wrote from (netsText (now (table .entry)) (now (answer .entry)) 0 n) (now (b .entry)) (now (b .exit)) r ⌝ }
+{
+    let mut at = from;
+    for i in 0..n {
+        at = put_row(b, at, i, table, answer);
+    }
+    at
+}
+
+// ---- the whole print
+
+fn put_totals(b: &mut [u8], at: usize, vias: u64, total: u64, most: u64) -> usize
+    requires { ⌜ at + length (totalsText vias total most) ≤ length (now b) ⌝ }
+    ensures { λ r. ⌜ Wrote at (totalsText vias total most) (now (b .entry)) (now (b .exit)) r ⌝ }
+{
+    let a = put_line(b, at, b"total_vias=", vias);
+    let c = put_line(b, a, b"total_overflow=", total);
+    put_line(b, c, b"max_overflow=", most)
+}
+
+// The printed plan from place 0 on: the first n numbers of `order` are the nets in placing order, and the net table has n rows.
+pub fn put_plan(b: &mut [u8], n: usize, order: &[u32], table: &[u32], answer: &[u8], vias: u64, total: u64, most: u64) -> usize
+    requires { ⌜ n ≤ length (now order) ⌝ }
+    requires { ⌜ Rows n (now table) (now answer) ⌝ }
+    requires { ⌜ length (planText n (now order) (now table) (now answer) vias total most) ≤ length (now b) ⌝ }
+    ensures { λ _. ⌜ now (b .exit) ≡ sets (now (b .entry)) 0 (planText n (now (order .entry)) (now (table .entry)) (now (answer .entry)) vias total most) ⌝ }
+    ensures { λ r. ⌜ r ≡ length (planText n (now (order .entry)) (now (table .entry)) (now (answer .entry)) vias total most) ⌝ }
+{
+    let a = put_order(b, 0, &order[..n]);
+    let c = put_nets(b, a, n, table, answer);
+    put_totals(b, c, vias, total, most)
+}
+
+// "or `refused=number,line`"
+pub fn put_refusal(b: &mut [u8], number: usize, line: usize) -> usize
+    requires { ⌜ length (written (refusal number line)) ≤ length (now b) ⌝ }
+    ensures { λ _. ⌜ now (b .exit) ≡ sets (now (b .entry)) 0 (written (refusal number line)) ⌝ }
+    ensures { λ r. ⌜ r ≡ length (written (refusal number line)) ⌝ }
+{
+    let a = put_text(b, 0, b"refused=");
+    let c = put_number(b, a, number as u64);
+    let d = put_byte(b, c, 44);
+    let e = put_number(b, d, line as u64);
+    put_byte(b, e, 10)
 }

@@ -1,0 +1,49 @@
+-- The lines of the nets, as they are taken from the net table.
+-- Assumes nothing.
+use mathlib.Core.List.{List, _++_}
+use mathlib.Core.Path.{_≡_, refl, sym, ap, ap₂, _∙_}
+use Prim.Native.Nat.{ℕ, _+_, _-_, _≤_, _<_}
+use native.Mathlib.Nat.{sub-zero}
+use native.Mathlib.Omega.{arith}
+use lib.ListN.{length, take, drop, getD, length-append}
+use Rattle.layout.specs.Table.{firstColumn, countColumn, viasColumn}
+use Rattle.model.specs.Print.{printNet}
+use Rattle.print.specs.Texts.{rowText, netsText, RowInside, nets-more, nets-done}
+use Rattle.print.specs.Wrote.{Wrote, Left, left-start, left-then, left-as, left-done}
+
+-- one net, its columns at the places f, k and v
+module _ (table answer : List ℕ) (i f k v : ℕ) (ef : f ≡ firstColumn i) (ek : k ≡ countColumn i) (ev : v ≡ viasColumn i) where
+  pub row-is : printNet (i + 1) (getD table v 0) (take (getD table f 0 + getD table k 0 - getD table f 0) (drop (getD table f 0) answer)) ≡ rowText table answer i
+  row-is =
+      let e : getD table f 0 + getD table k 0 - getD table f 0 ≡ getD table k 0 = omega arith in
+      rw (e, ef, ek, ev)
+
+  pub row-room : (a n : ℕ) → a + length (rowText table answer i) ≤ n
+      → a + length (printNet (i + 1) (getD table v 0) (take (getD table f 0 + getD table k 0 - getD table f 0) (drop (getD table f 0) answer))) ≤ n
+  row-room a n h = omega (arith, ap length row-is)
+
+  pub row-stretch : RowInside table answer i → getD table f 0 + getD table k 0 ≤ length answer
+  row-stretch r = omega (arith, r .stretch, ap (λ (x : ℕ). getD table x 0) ef, ap (λ (x : ℕ). getD table x 0) ek)
+
+-- ---- one net after another
+
+pub nets-start : (from : ℕ) (table answer w : List ℕ) (n : ℕ) → Left from (netsText table answer 0 n) w from (netsText table answer 0 (n - 0)) w
+nets-start from table answer w n = rw sub-zero (left-start from (netsText table answer 0 n) w)
+
+module _ {from a : ℕ} {text w w′ : List ℕ} (table answer : List ℕ) (i n : ℕ) (h : i < n) (l : Left from text w a (netsText table answer i (n - i)) w′) where
+  pub net-room : from + length text ≤ length w → a + length (rowText table answer i) ≤ length w′
+  net-room k =
+      omega (
+        arith,
+        l .next,
+        l .long,
+        ap length (nets-more table answer i n h),
+        length-append (rowText table answer i) (netsText table answer (i + 1) (n - (i + 1))),
+      )
+
+  pub net-more : {w″ : List ℕ} {m : ℕ} → Wrote a (rowText table answer i) w′ w″ m → Left from text w m (netsText table answer (i + 1) (n - (i + 1))) w″
+  net-more one = left-then {y = netsText table answer (i + 1) (n - (i + 1))} (left-as (nets-more table answer i n h) l) one
+
+pub nets-end : {from a : ℕ} {text w w′ : List ℕ} (table answer : List ℕ) (i n : ℕ) → i ≡ n → Left from text w a (netsText table answer i (n - i)) w′
+    → Wrote from text w w′ a
+nets-end table answer i n e l = left-done (left-as (nets-done table answer i n e) l)

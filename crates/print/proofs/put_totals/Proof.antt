@@ -1,0 +1,24 @@
+-- `put_totals` meets its contract.
+-- Assumes nothing.
+use mathlib.Core.List.{[], _∷_}
+use borrow.Author.Needs.{needs}
+use Rattle.model.specs.Print.{printLine}
+use Rattle.print.specs.Wrote.{room-one, room-two, room-three, wrote-then}
+use Rattle.print.proofs.put_totals.Statement.{statement}
+use Rattle.print.proofs.put_totals.Tie as tie
+
+pub put-totals-spec : {M : Type 1} → statement M
+put-totals-spec =
+    tie.close
+    (tie.spec
+    (λ c. search needs)
+    (λ c κs. let s = c .before .before .before in
+    room-one (s .args .at) (printLine "total_vias" (s .args .vias ∷ [])) (printLine "total_overflow" (s .args .total ∷ [])) (printLine "max_overflow" (s .args .most ∷ [])) (s .args .b .now) (s .pre))
+    (λ c. search needs)
+    (λ c κs. let s = c .before .before .before .before .before .before .before .before in
+    room-two (s .args .at) (printLine "total_vias" (s .args .vias ∷ [])) (printLine "total_overflow" (s .args .total ∷ [])) (printLine "max_overflow" (s .args .most ∷ [])) (s .args .b .now) (s .pre) (c .before .before .before .before .put-line .ensures))
+    (λ c. search needs)
+    (λ c κs. let s = c .before .before .before .before .before .before .before .before .before .before .before .before .before in
+    room-three (s .args .at) (printLine "total_vias" (s .args .vias ∷ [])) (printLine "total_overflow" (s .args .total ∷ [])) (printLine "max_overflow" (s .args .most ∷ [])) (s .args .b .now) (s .pre) (c .before .before .before .before .before .before .before .before .before .put-line .ensures) (c .before .before .before .before .put-line2 .ensures))
+    (λ c. search needs)
+    (λ c. wrote-then (wrote-then (c .before .before .before .before .before .before .before .before .before .before .before .before .put-line .ensures) (c .before .before .before .before .before .before .before .put-line2 .ensures)) (c .before .before .put-line3 .ensures)))
