@@ -1,7 +1,7 @@
 -- The line's answer is the definitions'.
 -- Assumes nothing.
 use mathlib.Core.Bool.{Bool, true, false, not, cond}
-use mathlib.Core.List.{List, [], _∷_, map}
+use mathlib.Core.List.{List, [], map}
 use mathlib.Core.Option.{Option, none, some}
 use mathlib.Core.Path.{_≡_, refl, sym, ap, _∙_}
 use Prim.Native.Nat.{ℕ, suc, _+_, _≤_}
@@ -14,20 +14,20 @@ use Rattle.layout.specs.declared.Shape.{Shape}
 use Rattle.model.specs.Job.{Pin}
 use Rattle.model.specs.Lists.{all, twice}
 use Rattle.model.specs.Read.{Place, Result, refused, found, Reading as Reads, next, _>>=_, _>>_, give, form, need, line, Triple, edgeEntries, edgeInside, edgeAt, edgesLine}
-use Rattle.model.specs.Text.{bytes, cutLine, behind}
+use Rattle.model.specs.Text.{bytes, cutLine}
 use Rattle.model.specs.Tree.{ring, joined}
 use Rattle.scan.specs.Keys.{behind-is}
 use Rattle.scan.specs.Lines.{Lined}
 use Rattle.scan.specs.Places.{drop-byte, getD-in, head-drop}
-use Rattle.scan.specs.Ways.{edgesOf, edgesCut, edgesIn, edgesRanged, ranged, edgesKey, edges-law, edges-some}
+use Rattle.scan.specs.Ways.{edgesOf, edgesCut, edgesIn, edgesRanged, ranged, edges-law, edges-some}
 use Rattle.text.specs.Entries.{startsWith}
 use Rattle.text.specs.declared.Fault.the-variants.{Form}
-use Rattle.edges.specs.Line.{judgedLine, verdictBy, EdgesFound, EntriesRead, LineFound, LineRead}
-use Rattle.edges.specs.Reading.{Reading, edgesOn}
+use Rattle.edges.specs.Line.{judgedLine, verdictBy, EntriesRead, LineRead}
+use Rattle.edges.specs.Reading.{Reading}
 use Rattle.edges.specs.declared.EdgesRead.{EdgesRead}
 use Rattle.edges.specs.declared.EdgesRead.the-variants.{Line, Bad}
 use Rattle.edges.specs.declared.Judged.the-variants.{Fine}
-use Rattle.edges.proofs.Turns.{shown-start, read-end}
+use Rattle.edges.proofs.Loop.{shown-start, read-end}
 
 module _ (W H : ℕ) (ps : List Pin) where
   -- the tests after form and range

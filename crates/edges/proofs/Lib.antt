@@ -1,4 +1,5 @@
 mod Grid
 mod Parts
 mod Turns
+mod Loop
 mod Law

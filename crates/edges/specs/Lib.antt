@@ -3,3 +3,4 @@ pub mod Entries
 pub mod Reading
 pub mod Steps
 pub mod Line
+pub mod Pins

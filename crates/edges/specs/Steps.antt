@@ -4,31 +4,29 @@ use mathlib.Core.Bool.{Bool, true, false, _&&_, _||_, not, cond}
 use mathlib.Core.List.{List, [], _∷_, _++_}
 use mathlib.Core.Logic.{_⊎_, inl, inr, ⊎-elim}
 use mathlib.Core.Path.{_≡_, refl, sym, ap, ap₂, _∙_}
-use Prim.Native.Nat.{ℕ, _+_, _*_, _≤_, _<_}
+use Prim.Native.Nat.{ℕ, _+_, _≤_, _<_}
 use native.Mathlib.Omega.{arith}
 use lib.Dec.{eqb}
-use lib.ListN.{length, getD, set, length-set}
-use lib.Seq.{getD-set-same, getD-set-other}
-use Rattle.layout.specs.Areas.{demandAt, flatAt, tilesAt, linksAt, chosenAt}
-use Rattle.layout.specs.Parts.{part, part-long, part-outside, Outside, set-outside}
+use lib.ListN.{length, getD, set}
+use lib.Seq.{getD-set-same}
+use Rattle.layout.specs.Areas.{demandAt, tilesAt, linksAt, chosenAt}
+use Rattle.layout.specs.Parts.{part-long, part-outside, Outside, set-outside}
 use Rattle.layout.specs.Shapes.{Shaped}
 use Rattle.layout.specs.declared.Shape.{Shape}
 use Rattle.marks.specs.Marks.{marked, touched, mark, Older, fits-older}
-use Rattle.marks.specs.Words.{Fits}
 use Rattle.model.specs.Job.{Pin}
-use Rattle.model.specs.Lists.{twice, has, occurs, bit, In}
+use Rattle.model.specs.Lists.{twice, has, bit, In}
 use Rattle.model.specs.Read.{Triple, edgeInside}
 use Rattle.model.specs.Tree.{ring}
 use Rattle.theory.specs.congestion.Base.{upFrom, length-upFrom, in-upFrom}
-use Rattle.theory.specs.congestion.Sums.{same, same-cases, same-refl, sum-bound, sum-part, lt-or-ge}
+use Rattle.theory.specs.congestion.Sums.{same-cases, same-refl, sum-bound, sum-part, lt-or-ge}
 use Rattle.theory.specs.links.Counted.{Counted, counted-marked}
 use Rattle.theory.specs.links.Reach.{loOf, hiOf}
 use Rattle.theory.specs.links.Tests.{twice-once}
-use Rattle.theory.specs.walk.NetVias.{pinTiles, netTiles}
-use Rattle.theory.specs.walk.Parts.{rootMark, Marked, Touches, touches-test}
+use Rattle.theory.specs.walk.Parts.{rootMark, touches-test}
 use Rattle.theory.specs.walk.Stops.{occurs-append}
 use Rattle.theory.specs.walk.Union.{topOf}
-use Rattle.union.specs.Links.{parentIn, Links, Merged, Older as OlderLinks, links-older}
+use Rattle.union.specs.Links.{Merged, Older as OlderLinks, links-older}
 use Rattle.union.specs.Parts.{merged-edge}
 use Rattle.union.specs.Rings.{merged-ring}
 use Rattle.ways.specs.Ends.{firstMark, endsAfter, first-mark, ends-forth, start-touches, ends-touch, ends-fit}
@@ -68,15 +66,6 @@ kept-links g w w₁ w₂ e v known out stored =
 
 module _ (g : Shape) (shaped : Shaped g) (n : ℕ) (ps : List Pin) (es : List ℕ) (parts : ℕ) (w₀ w : List ℕ) (room : chosenAt g ≤ length w) (reading : Reading g n ps es parts w₀ w)
     (t : Triple) (inside : edgeInside (g .w) (g .h) t ≡ true) (way : t .third ≤ 1) where
-  abbrev W : ℕ
-  W = g .w
-
-  abbrev H : ℕ
-  H = g .h
-
-  abbrev edge : ℕ
-  edge = edgeOf g t
-
   abbrev here : ℕ
   here = loOf (g .w) (g .h) (edgeOf g t)
 

@@ -43,7 +43,7 @@ module _ (n : ℕ) where
   pins-long a [] = refl
   pins-long a (p ∷ ps) = pins-long (markPin n a p) ps ∙ mark-long n a (p .tile) (p .layer - 1)
 
-  still-inside : (a : List ℕ) (p : Pin) (ps : List Pin) → AllInside (length a) ps → AllInside (length (markPin n a p)) ps
+  pub still-inside : (a : List ℕ) (p : Pin) (ps : List Pin) → AllInside (length a) ps → AllInside (length (markPin n a p)) ps
   still-inside a p ps k = rw (mark-long n a (p .tile) (p .layer - 1)) k
 
   any-mark : (a : List ℕ) (p : Pin) → Inside (length a) p → pinMarked n a p ≡ false → (m : ℕ) (qs : List Pin) → AllInside m qs
@@ -88,7 +88,7 @@ module _ (n : ℕ) where
   -- ---- what a list of pins marks, where none is met twice
 
   -- the next pin and what is left
-  first-new : (a : List ℕ) (p : Pin) (ps : List Pin) → markedTwice n a (p ∷ ps) ≡ false → (pinMarked n a p ≡ false) × (markedTwice n (markPin n a p) ps ≡ false)
+  pub first-new : (a : List ℕ) (p : Pin) (ps : List Pin) → markedTwice n a (p ∷ ps) ≡ false → (pinMarked n a p ≡ false) × (markedTwice n (markPin n a p) ps ≡ false)
   first-new a p ps e = go (pinMarked n a p) e
     where
       go : (t : Bool) → cond t true (markedTwice n (markPin n a p) ps) ≡ false → (t ≡ false) × (markedTwice n (markPin n a p) ps ≡ false)

@@ -3,7 +3,7 @@
 -- Assumes nothing.
 use mathlib.Core.Bool.{Bool, true, false, _&&_, _||_, not, cond}
 use mathlib.Core.List.{List}
-use mathlib.Core.Path.{_≡_, refl, sym, ap, _∙_}
+use mathlib.Core.Path.{_≡_, refl, ap, _∙_}
 use Prim.Native.Nat.{ℕ, _+_, _≤_, _<_}
 use native.Mathlib.Decide.{ℕ-discrete}
 use native.Mathlib.Omega.{arith}
@@ -95,10 +95,6 @@ ends-long n a here there d = go (marked n a here (8 + d))
 
 -- an edge that was not marked
 module _ (n : ℕ) (a : List ℕ) (here there d : ℕ) (here-in : here < length a) (there-in : there < length a) (way : d ≤ 1) (new : marked n a here (8 + d) ≡ false) where
-  -- the marks after the first of the two
-  abbrev pub between : List ℕ
-  between = mark n a here (8 + d)
-
   room : there < length (mark n a here (8 + d))
   room = omega (arith, mark-long n a here (8 + d))
 

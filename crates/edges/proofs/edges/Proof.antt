@@ -7,7 +7,7 @@ use lib.ListN.{length}
 use borrow.Author.Needs.{needs}
 use Rattle.text.specs.declared.Entry.the-variants.{More, Last}
 use Rattle.edges.specs.Entries.{entry-fits, place-more}
-use Rattle.edges.proofs.Turns.{Passed, passed-start, passed-ready, passed-bad, passed-more, passed-last}
+use Rattle.edges.proofs.Loop.{Passed, passed-start, passed-ready, passed-bad, passed-more, passed-last}
 use Rattle.edges.proofs.edges.Statement.{statement}
 use Rattle.edges.proofs.edges.Tie as tie
 

@@ -1,7 +1,7 @@
 -- `verdict` meets its contract.
 -- Assumes nothing.
 use borrow.Author.Needs.{needs}
-use Rattle.edges.proofs.Turns.{verdict-is, verdict-apart, verdict-line}
+use Rattle.edges.proofs.Loop.{verdict-is, verdict-apart, verdict-line}
 use Rattle.edges.proofs.verdict.Statement.{statement}
 use Rattle.edges.proofs.verdict.Tie as tie
 
