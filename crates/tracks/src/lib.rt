@@ -192,7 +192,8 @@ pub fn occupy(w: &mut [u32], g: Shape, edge: usize, layer: usize)
     let load = layout::loads_at(g) + cap;
     let left = layout::demand_at(g) + edge;
     let nets = w[load];
-    let rest = w[left] - full_of(nets, w[cap]);
+    let spare = w[left];
+    let rest = spare - full_of(nets, w[cap]);
     w[left] = rest;
     w[load] = nets + 1;
 }
