@@ -182,7 +182,16 @@ fn put_totals(b: &mut [u8], at: usize, vias: u64, total: u64, most: u64) -> usiz
 }
 
 // The printed plan from place 0 on: the first n numbers of `order` are the nets in placing order, and the net table has n rows.
-pub fn put_plan(b: &mut [u8], n: usize, order: &[u32], table: &[u32], answer: &[u8], vias: u64, total: u64, most: u64) -> usize
+pub fn put_plan(
+    b: &mut [u8],
+    n: usize,
+    order: &[u32],
+    table: &[u32],
+    answer: &[u8],
+    vias: u64,
+    total: u64,
+    most: u64,
+) -> usize
     requires { ⌜ n ≤ length (now order) ⌝ }
     requires { ⌜ Rows n (now table) (now answer) ⌝ }
     requires { ⌜ length (planText n (now order) (now table) (now answer) vias total most) ≤ length (now b) ⌝ }

@@ -21,9 +21,11 @@ put-plan-spec =
     (λ c κs. let s = c .before .before .before .before .before .before in
     room-one 0 (printLine "order" (take (s .args .n) (s .args .order .now))) (netsText (s .args .table .now) (s .args .answer .now) 0 (s .args .n))
     (totalsText (s .args .vias) (s .args .total) (s .args .most)) (s .args .b .now) (omega (arith, s .pre .1 .1)))
-    (λ c κs. let s = c .before .before .before .before .before .before .before .before .before .before in
-    (s .pre .1 .0, room-two 0 (printLine "order" (take (s .args .n) (s .args .order .now))) (netsText (s .args .table .now) (s .args .answer .now) 0 (s .args .n))
-    (totalsText (s .args .vias) (s .args .total) (s .args .most)) (s .args .b .now) (omega (arith, s .pre .1 .1)) (c .before .before .before .put-order .ensures)))
+    (λ c κs. let s = c .before .before .before .before .before .before .before .before .before .before in (
+      s .pre .1 .0,
+      room-two 0 (printLine "order" (take (s .args .n) (s .args .order .now))) (netsText (s .args .table .now) (s .args .answer .now) 0 (s .args .n))
+          (totalsText (s .args .vias) (s .args .total) (s .args .most)) (s .args .b .now) (omega (arith, s .pre .1 .1)) (c .before .before .before .put-order .ensures),
+    ))
     (λ c κs. let s = c .before .before .before .before .before .before .before .before .before .before .before .before .before .before in
     room-three 0 (printLine "order" (take (s .args .n) (s .args .order .now))) (netsText (s .args .table .now) (s .args .answer .now) 0 (s .args .n))
     (totalsText (s .args .vias) (s .args .total) (s .args .most)) (s .args .b .now) (omega (arith, s .pre .1 .1)) (c .before .before .before .before .before .before .before .put-order .ensures) (c .before .before .before .put-nets .ensures))
