@@ -2,3 +2,4 @@ pub mod AtHand
 pub mod SoFar
 pub mod Table
 pub mod Checked
+pub mod Left

@@ -99,3 +99,43 @@ edge-says s i = go1 (commaAt s i) (comma-says edge edge begins-0 (λ p. refl) s 
 
 pub edge-is : (s : List ℕ) (i : ℕ) (e : Entry) → e ≡ edgeEntryAt s i → EdgeSays s i e
 edge-is s i e h = rw h (edge-says s i)
+
+-- ---- an entry goes east or north
+
+abbrev pub EdgeWay : Entry → Type 0
+EdgeWay (More x y d next) = d ≤ 1
+EdgeWay (Last x y d next) = d ≤ 1
+EdgeWay Bad = Unit {0}
+
+broken-way : (s : List ℕ) (x y d n : ℕ) → d ≤ 1 → EdgeWay (broken s x y d n)
+broken-way s x y d n h = go (eqb (getD s n 0) 59) (eqb (getD s n 0) 10)
+  where
+    go : (p q : Bool) → EdgeWay (cond p (More x y d (n + 1)) (cond q (Last x y d (n + 1)) Bad))
+    go true q = h
+    go false true = h
+    go false false = tt
+
+way-at : (s : List ℕ) (i : ℕ) → EdgeWay (edgeEntryAt s i)
+unfolding edgeEntryAt
+way-at s i = first (commaAt s i)
+  where
+    third : (x y q : ℕ) (a b : Bool) → EdgeWay (cond a (broken s x y 0 (q + 1)) (cond b (broken s x y 1 (q + 1)) Bad))
+    third x y q true b = broken-way s x y 0 (q + 1) (omega arith)
+    third x y q false true = broken-way s x y 1 (q + 1) (omega arith)
+    third x y q false false = tt
+
+    second : (x : ℕ) (m : Numeral)
+        → EdgeWay (onNumber m (λ y q. cond (eqb (getD s q 0) 101) (broken s x y 0 (q + 1)) (cond (eqb (getD s q 0) 110) (broken s x y 1 (q + 1)) Bad)) Bad)
+    second x Malformed = tt
+    second x (Value y q) = third x y q (eqb (getD s q 0) 101) (eqb (getD s q 0) 110)
+
+    first : (m : Numeral)
+        → EdgeWay
+        (onNumber m
+        (λ x p. onNumber (commaAt s p) (λ y q. cond (eqb (getD s q 0) 101) (broken s x y 0 (q + 1)) (cond (eqb (getD s q 0) 110) (broken s x y 1 (q + 1)) Bad)) Bad)
+        Bad)
+    first Malformed = tt
+    first (Value x p) = second x (commaAt s p)
+
+pub edge-way : (s : List ℕ) (i : ℕ) (e : Entry) → e ≡ edgeEntryAt s i → EdgeWay e
+edge-way s i e h = rw h (way-at s i)

@@ -5,3 +5,4 @@ pub mod Ways
 pub mod Pins
 pub mod Edges
 pub mod Inside
+pub mod First
