@@ -1,1 +1,2 @@
 mod PinTurns
+mod Marked

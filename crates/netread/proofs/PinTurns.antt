@@ -1,66 +1,25 @@
 -- A turn of the loop over the pins of a net that is read again.
 -- Assumes nothing.
-use mathlib.Core.Bool.{Bool, true, false, cond}
+use mathlib.Core.Bool.{true}
 use mathlib.Core.List.{List, [], _∷_, map}
-use mathlib.Core.Option.{Option, none, some}
-use mathlib.Core.Path.{_≡_, refl, sym, ap, ap₂, _∙_}
+use mathlib.Core.Option.{some}
+use mathlib.Core.Path.{_≡_, refl, sym, ap, _∙_}
 use Prim.Native.Nat.{ℕ, _+_, _-_, _*_, _≤_, _<_, min}
-use native.Mathlib.Omega.{arith}
-use lib.ListN.{length, drop, length-set}
+use lib.ListN.{length, drop}
 use Rattle.layout.specs.declared.Shape.{Shape}
-use Rattle.marks.specs.Marks.{marked, mark, marksAfter, mark-long}
+use Rattle.marks.specs.Marks.{marksAfter}
 use Rattle.model.specs.Job.{Pin, Net}
 use Rattle.model.specs.Lists.{all}
 use Rattle.model.specs.Read.{Triple, pinInside, pinAt}
 use Rattle.model.specs.Walk.{lowestFrom}
 use Rattle.net.specs.Table.{PinsAt}
-use Rattle.scan.specs.Inside.{inside-is, false-true}
-use Rattle.scan.specs.Lines.{Lined, consTo}
+use Rattle.scan.specs.First.{some-none, front, one-line, all-first}
+use Rattle.scan.specs.Inside.{inside-is}
 use Rattle.scan.specs.Pins.{triple, pinsOf, pin-is}
 use Rattle.text.specs.Entries.{pinEntryAt}
 use Rattle.text.specs.declared.Entry.the-variants.{More, Last, Bad}
+use Rattle.ways.specs.Ends.{after-long}
 use Rattle.netread.specs.Pins.{PinsThere, afterPins, noTile, PinsMarked, PinsLeft}
-
--- ---- lines
-
--- the entries of a line, and the text after it
-entriesOf : Lined → List Triple
-entriesOf none = []
-entriesOf (some c) = c .0
-
-restOf : Lined → List ℕ
-restOf none = []
-restOf (some c) = c .1
-
-some-none : {A : Type 0} (c : List Triple × List ℕ) → _≡_ {A = Lined} (some c) none → A
-some-none c e = absurd (let y : _≡_ {A = ℕ} 0 1 = cc in omega arith)
-
--- an entry in front: the entries are it and those left
-front : (t : Triple) (r : Lined) (es : List Triple) (rest : List ℕ) → _≡_ {A = Lined} (some (es, rest)) (consTo (some t) r)
-    → (us : List Triple) × (r ≡ some (us, rest)) × (es ≡ t ∷ us)
-unfolding entriesOf restOf
-front t none es rest e = some-none (es, rest) e
-front t (some c) es rest e = (c .0, ap (λ (x : List ℕ). some (c .0, x)) (sym (ap restOf e)), ap entriesOf e)
-
-one-line : (es us : List Triple) (r q : List ℕ) → _≡_ {A = Lined} (some (es, r)) (some (us, q)) → es ≡ us
-unfolding entriesOf
-one-line es us r q e = ap entriesOf e
-
--- the first passes, and the others
-all-first : (q : Triple → Bool) (t : Triple) (ts : List Triple) → all q (t ∷ ts) ≡ true → (q t ≡ true) × (all q ts ≡ true)
-all-first q t ts e = go (q t) e
-  where
-    go : (p : Bool) → cond p (all q ts) false ≡ true → (p ≡ true) × (all q ts ≡ true)
-    go true h = (refl, h)
-    go false h = absurd (false-true h)
-
-pub after-long : (n : ℕ) (a : List ℕ) (t i : ℕ) → length (marksAfter n a t i) ≡ length a
-unfolding marksAfter
-after-long n a t i = go (marked n a t i)
-  where
-    go : (q : Bool) → length (cond q a (mark n a t i)) ≡ length a
-    go true = refl
-    go false = mark-long n a t i
 
 -- ---- the turns
 

@@ -1,14 +1,28 @@
 // The lines of an accepted net, read again for placing. What the first pass found right is not tested again.
 use layout::Shape;
 use text::Entry;
+ghost use mathlib.Core.Bool.{true};
 ghost use mathlib.Core.Path.{_≡_};
 ghost use Prim.Native.Nat.{ℕ, _+_, _-_, _*_, _<_, _≤_, min};
 ghost use lib.ListN.{length};
+ghost use Rattle.layout.specs.Areas.{tilesAt, areasEnd};
+ghost use Rattle.layout.specs.Parts.{Outside};
 ghost use Rattle.layout.specs.Shapes.{Shaped};
 ghost use Rattle.marks.specs.Marks.{marksAfter};
 ghost use Rattle.model.specs.Job.{Net};
+ghost use Rattle.model.specs.Read.{edgeInside};
+ghost use Rattle.net.specs.AtHand.{tilesOf};
 ghost use Rattle.net.specs.Table.{PinsAt};
+ghost use Rattle.scan.specs.Pins.{triple};
+ghost use Rattle.ways.specs.Ends.{endsAfter};
 ghost use Rattle.netread.specs.Pins.{PinsThere, PinsMarked};
+ghost use Rattle.netread.specs.Edges.{EdgeMarked};
+
+// What was read of a net again: its lowest tile, and how many edges it has.
+pub struct Again {
+    pub low: usize,
+    pub edges: usize,
+}
 
 fn lower(a: usize, b: usize) -> usize
     ensures { λ r. ⌜ r ≡ min a b ⌝ }
@@ -50,5 +64,34 @@ pub fn mark_pins(s: &[u8], at: usize, a: &mut [u32], g: Shape, stamp: u32) -> us
                 i = next;
             }
         }
+    }
+}
+
+// Marks an edge in its two tiles.
+fn mark_ways(w: &mut [u32], g: Shape, stamp: u32, here: usize, there: usize, d: u32)
+    requires { ⌜ Shaped g ⌝ }
+    requires { ⌜ (areasEnd g ≤ length (now w)) × (here < g .t) × (there < g .t) × (d ≤ 1) × (stamp ≤ 8192) ⌝ }
+    ensures { λ _. ⌜ tilesOf g (now (w .exit)) ≡ endsAfter stamp (tilesOf g (now (w .entry))) here there d ⌝ }
+    ensures { λ _. ⌜ Outside (tilesAt g) (g .t) (now (w .entry)) (now (w .exit)) ⌝ }
+{
+    let from = layout::tiles_at(g);
+    let to = layout::links_at(g);
+    ways::mark_ends(&mut w[from..to], stamp, here, there, d);
+}
+
+// Marks an edge, and lists it behind those read before.
+fn mark_edge(w: &mut [u32], g: Shape, stamp: u32, v: Again, x: usize, y: usize, d: usize) -> Again
+    requires { ⌜ Shaped g ⌝ }
+    requires { ⌜ (areasEnd g ≤ length (now w)) × (stamp ≤ 8192) × (v .edges < g .t) × (d ≤ 1) × (edgeInside (g .w) (g .h) (triple x y d) ≡ true) ⌝ }
+    ensures { λ r. ⌜ EdgeMarked g stamp (triple x y d) v (now (w .entry)) (now (w .exit)) r ⌝ }
+{
+    let here = pins::tile_at(g, x, y);
+    let way = layout::way_out(g, here, d);
+    mark_ways(w, g, stamp, here, way.tile, d as u32);
+    let i = layout::list_at(g) + v.edges;
+    w[i] = way.edge as u32;
+    Again {
+        low: lower(v.low, here),
+        edges: v.edges + 1,
     }
 }

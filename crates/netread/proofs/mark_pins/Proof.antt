@@ -5,8 +5,9 @@ use Prim.Native.Nat.{_-_, _*_, _+_}
 use native.Mathlib.Omega.{arith}
 use lib.ListN.{length}
 use borrow.Author.Needs.{needs}
+use Rattle.ways.specs.Ends.{after-long}
 use Rattle.netread.specs.Pins.{PinsLeft}
-use Rattle.netread.proofs.PinTurns.{after-long, left-start, left-bad, last-inside, left-last, more-inside, left-more, more-place}
+use Rattle.netread.proofs.PinTurns.{left-start, left-bad, last-inside, left-last, more-inside, left-more, more-place}
 use Rattle.netread.proofs.mark_pins.Statement.{statement}
 use Rattle.netread.proofs.mark_pins.Tie as tie
 

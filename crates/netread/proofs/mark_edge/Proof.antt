@@ -1,0 +1,69 @@
+-- `mark_edge` meets its contract.
+-- Assumes nothing.
+use native.Mathlib.Omega.{arith}
+use borrow.Author.Needs.{needs}
+use Rattle.netread.proofs.Marked.{at, there-in, edge-small, edge-marked}
+use Rattle.netread.proofs.mark_edge.Statement.{statement}
+use Rattle.netread.proofs.mark_edge.Tie as tie
+
+tile-at-requires : tie.Need-tile-at-requires
+tile-at-requires c κs =
+    let x = c .before .args in
+    let r = c .before .pre in
+    let p = at (x .g) (r .0) (x .x) (x .y) (x .d) (r .1 .3) (r .1 .4) in
+    (r .0, (p .column, p .row))
+
+mark-ways-requires : tie.Need-mark-ways-requires
+mark-ways-requires c κs =
+    let x = c .before .before .before .before .args in
+    let r = c .before .before .before .before .pre in
+    let t = c .before .before .tile-at in
+    let o = c .before .way-out in (
+      r .0,
+      (
+        r .1 .0,
+        t .ensures .1,
+        there-in (x .g) (r .0) (x .x) (x .y) (x .d) (r .1 .3) (r .1 .4) (t .result) (t .ensures .0) (o .result) (o .ensures),
+        r .1 .3,
+        r .1 .1,
+      ),
+    )
+
+cast-w : tie.Need-cast-w
+cast-w c =
+    let z = c .before .before .before .before .before .before .before .before .before .before in
+    let x = z .args in
+    let r = z .pre in
+    let t = c .before .before .before .before .before .before .before .before .tile-at in
+    let o = c .before .before .before .before .before .before .before .way-out in
+    omega (arith, edge-small (x .g) (r .0) (x .x) (x .y) (x .d) (r .1 .3) (r .1 .4) (t .result) (t .ensures .0) (o .result) (o .ensures))
+
+returns : tie.Need-returns
+returns c =
+    let z = c .before .before .before .before .before .before .before .before .before .before .before .before in
+    let x = z .args in
+    let r = z .pre in
+    let t = c .before .before .before .before .before .before .before .before .before .before .tile-at in
+    let o = c .before .before .before .before .before .before .before .before .before .way-out in
+    let m = c .before .before .before .before .before .before .before .mark-ways in
+    let l = c .before .before .before .before .list-at in
+    edge-marked (x .g) (r .0) (x .x) (x .y) (x .d) (r .1 .3) (r .1 .4) (t .result) (t .ensures .0) (o .result) (o .ensures)
+    (x .stamp) (x .v) (r .1 .2) (x .w .now) (m .last .0) (r .1 .0) (m .ensures .0) (m .ensures .1) (l .result) (c .before .lower .result) (l .ensures .0) (c .before .lower .ensures)
+
+pub mark-edge-spec : {M : Type 1} → statement M
+mark-edge-spec =
+    tie.close
+    (tie.spec
+    tile-at-requires
+    (λ c κs. search needs)
+    (λ c. search needs)
+    mark-ways-requires
+    (λ c κs. search needs)
+    (λ c. search needs)
+    cast-w
+    (λ c. search needs)
+    (λ c. search needs)
+    (λ c κs. search needs)
+    (λ c. search needs)
+    (λ c. search needs)
+    returns)
