@@ -8,22 +8,16 @@ use native.Mathlib.Omega.{arith}
 use lib.ListN.{length, take, drop, getD, length-append}
 use Rattle.layout.specs.Table.{firstColumn, countColumn, viasColumn}
 use Rattle.model.specs.Print.{printNet}
-use Rattle.print.specs.Texts.{rowText, netsText, RowInside, nets-more, nets-done}
+use Rattle.print.specs.Texts.{rowText, netsText, nets-more, nets-done}
 use Rattle.print.specs.Wrote.{Wrote, Left, left-start, left-then, left-as, left-done}
 
--- one net, its columns at the places f, k and v
-module _ (table answer : List ℕ) (i f k v : ℕ) (ef : f ≡ firstColumn i) (ek : k ≡ countColumn i) (ev : v ≡ viasColumn i) where
-  pub row-is : printNet (i + 1) (getD table v 0) (take (getD table f 0 + getD table k 0 - getD table f 0) (drop (getD table f 0) answer)) ≡ rowText table answer i
-  row-is =
-      let e : getD table f 0 + getD table k 0 - getD table f 0 ≡ getD table k 0 = omega arith in
-      rw (e, ef, ek, ev)
+-- one net: its vias v, and its k layers from f on
+module _ (table answer : List ℕ) (i f k v : ℕ) (ef : f ≡ getD table (firstColumn i) 0) (ek : k ≡ getD table (countColumn i) 0) (ev : v ≡ getD table (viasColumn i) 0) where
+  pub row-is : printNet (i + 1) v (take (f + k - f) (drop f answer)) ≡ rowText table answer i
+  row-is = let e : f + k - f ≡ k = omega arith in rw (e, ef, ek, ev)
 
-  pub row-room : (a n : ℕ) → a + length (rowText table answer i) ≤ n
-      → a + length (printNet (i + 1) (getD table v 0) (take (getD table f 0 + getD table k 0 - getD table f 0) (drop (getD table f 0) answer))) ≤ n
+  pub row-room : (a n : ℕ) → a + length (rowText table answer i) ≤ n → a + length (printNet (i + 1) v (take (f + k - f) (drop f answer))) ≤ n
   row-room a n h = omega (arith, ap length row-is)
-
-  pub row-stretch : RowInside table answer i → getD table f 0 + getD table k 0 ≤ length answer
-  row-stretch r = omega (arith, r .stretch, ap (λ (x : ℕ). getD table x 0) ef, ap (λ (x : ℕ). getD table x 0) ek)
 
 -- ---- one net after another
 

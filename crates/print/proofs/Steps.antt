@@ -8,11 +8,8 @@ use native.Mathlib.Numerals.{add-one}
 use native.Mathlib.Omega.{arith}
 use lib.ListN.{length, drop, getD, set, length-append}
 use lib.Seq.{sets, drop-cons, drop-length}
-use Rattle.model.specs.Calls.{refusal}
-use Rattle.model.specs.Program.{written}
-use Rattle.model.specs.Text.{bytes, decimal, decimals}
+use Rattle.model.specs.Text.{decimal, decimals}
 use Rattle.theory.specs.links.Decimals.{decimal-one, decimal-parts}
-use Rattle.theory.specs.links.Room.{decimal-few}
 use Rattle.print.specs.Lists.{others, first-more, others-more}
 use Rattle.print.specs.Wrote.{Wrote, Left, sets-last, wrote-long, wrote-then, wrote-as, left-start, left-then, left-done, left-as}
 
@@ -42,10 +39,6 @@ tenth-long n h = ap length (decimal-parts n h) ∙ length-append (decimal (n / 1
 pub one-long : (n : ℕ) → n < 10 → length (decimal n) ≡ 1
 one-long n h = ap length (decimal-one n h)
 
--- a number of 64 bits has at most 20 digits
-pub digits-most : (n : ℕ) → n < 18_446_744_073_709_551_616 → length (decimal n) ≤ 20
-digits-most n h = decimal-few 19 n (omega arith)
-
 -- the last digit is stored first
 pub digit-more : (w : List ℕ) (a i n : ℕ) → 10 ≤ n → i ≡ a + length (decimal n) → sets w a (decimal n) ≡ sets (set w (i - 1) (48 + n % 10)) a (decimal (n / 10))
 digit-more w a i n h e =
@@ -56,6 +49,9 @@ pub digit-one : (w : List ℕ) (a n : ℕ) → n < 10 → sets w a (decimal n) �
 digit-one w a n h = ap (sets w a) (decimal-one n h)
 
 -- ---- numbers with commas between
+
+pub comma-then : {a m r : ℕ} {text w w′ w″ : List ℕ} → Wrote a (44 ∷ []) w w′ m → Wrote m text w′ w″ r → Wrote a (44 ∷ text) w w″ r
+comma-then one two = wrote-then one two
 
 pub list-none : (a : ℕ) (xs w : List ℕ) → length xs ≡ 0 → Wrote a (decimals xs) w w a
 list-none a [] w e = record { buffer = refl; next = omega arith }
@@ -76,23 +72,11 @@ module _ (xs : List ℕ) (h : 1 ≤ length xs) where
 
 -- one turn of the others
 module _ {from a : ℕ} {text w w′ : List ℕ} (xs : List ℕ) (i : ℕ) (h : i < length xs) (l : Left from text w a (others (drop i xs)) w′) where
-  pub turn-room : from + length text ≤ length w → a + 1 + length (decimal (getD xs i 0)) ≤ length w′
+  pub turn-room : from + length text ≤ length w → a + length (44 ∷ decimal (getD xs i 0)) ≤ length w′
   turn-room k = omega (arith, l .next, l .long, ap length (others-more xs i h), length-append (44 ∷ decimal (getD xs i 0)) (others (drop (i + 1) xs)))
 
-  pub turn-more : {w₁ w₂ : List ℕ} {k m : ℕ} → Wrote a (44 ∷ []) w′ w₁ k → Wrote k (decimal (getD xs i 0)) w₁ w₂ m
-      → Left from text w m (others (drop (i + 1) xs)) w₂
-  turn-more one two = left-then {y = others (drop (i + 1) xs)} (left-as (others-more xs i h) l) (wrote-then one two)
+  pub turn-more : {w″ : List ℕ} {m : ℕ} → Wrote a (44 ∷ decimal (getD xs i 0)) w′ w″ m → Left from text w m (others (drop (i + 1) xs)) w″
+  turn-more one = left-then {y = others (drop (i + 1) xs)} (left-as (others-more xs i h) l) one
 
 pub others-done : {from a : ℕ} {text w w′ : List ℕ} (xs : List ℕ) (i : ℕ) → i ≡ length xs → Left from text w a (others (drop i xs)) w′ → Wrote from text w w′ a
 others-done xs i e l = left-done (left-as (ap (λ (k : ℕ). others (drop k xs)) e ∙ ap others (drop-length xs)) l)
-
--- ---- a refusal's line
-
-pub refusal-long : (n l : ℕ) → length (written (refusal n l)) ≡ 8 + length (decimal n) + 1 + length (decimal l) + 1
-refusal-long n l =
-    omega (
-      arith,
-      length-append (bytes "refused=" ++ (decimal n ++ (44 ∷ decimal l))) (10 ∷ []),
-      length-append (bytes "refused=") (decimal n ++ (44 ∷ decimal l)),
-      length-append (decimal n) (44 ∷ decimal l),
-    )

@@ -1,3 +1,5 @@
 pub mod Wrote
 pub mod Lists
 pub mod Texts
+pub mod Refusal
+pub mod Held

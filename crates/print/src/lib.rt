@@ -2,8 +2,9 @@
 ghost use mathlib.Core.List.{[], _∷_};
 ghost use mathlib.Core.Path.{_≡_};
 ghost use Prim.Native.Nat.{_+_, _≤_, _<_};
-ghost use lib.ListN.{length};
+ghost use lib.ListN.{length, getD};
 ghost use lib.Seq.{sets};
+ghost use Rattle.layout.specs.Table.{firstColumn, countColumn, viasColumn};
 ghost use Rattle.model.specs.Calls.{refusal};
 ghost use Rattle.model.specs.Print.{printLine, printNet};
 ghost use Rattle.model.specs.Program.{written};
@@ -73,6 +74,15 @@ fn put_number(b: &mut [u8], at: usize, n: u64) -> usize
 
 // ---- numbers with commas between
 
+// One more number: a comma before it.
+fn put_next(b: &mut [u8], at: usize, x: u64) -> usize
+    requires { ⌜ at + length (44 ∷ decimal x) ≤ length (now b) ⌝ }
+    ensures { λ r. ⌜ Wrote at (44 ∷ decimal x) (now (b .entry)) (now (b .exit)) r ⌝ }
+{
+    let digit = put_byte(b, at, 44);
+    put_number(b, digit, x)
+}
+
 fn put_numbers(b: &mut [u8], from: usize, xs: &[u32]) -> usize
     requires { ⌜ from + length (decimals (now xs)) ≤ length (now b) ⌝ }
     ensures { λ r. ⌜ Wrote from (decimals (now (xs .entry))) (now (b .entry)) (now (b .exit)) r ⌝ }
@@ -82,8 +92,7 @@ fn put_numbers(b: &mut [u8], from: usize, xs: &[u32]) -> usize
     }
     let mut at = put_number(b, from, xs[0] as u64);
     for i in 1..xs.len() {
-        let next = put_byte(b, at, 44);
-        at = put_number(b, next, xs[i] as u64);
+        at = put_next(b, at, xs[i] as u64);
     }
     at
 }
@@ -97,8 +106,7 @@ fn put_bytes(b: &mut [u8], from: usize, xs: &[u8]) -> usize
     }
     let mut at = put_number(b, from, xs[0] as u64);
     for i in 1..xs.len() {
-        let next = put_byte(b, at, 44);
-        at = put_number(b, next, xs[i] as u64);
+        at = put_next(b, at, xs[i] as u64);
     }
     at
 }
@@ -110,27 +118,27 @@ fn put_line(b: &mut [u8], at: usize, key: &[u8], n: u64) -> usize
     requires { ⌜ at + length (line (now key) (decimal n)) ≤ length (now b) ⌝ }
     ensures { λ r. ⌜ Wrote at (line (now (key .entry)) (decimal n)) (now (b .entry)) (now (b .exit)) r ⌝ }
 {
-    let a = put_text(b, at, key);
-    let c = put_number(b, a, n);
-    put_byte(b, c, 10)
+    let value = put_text(b, at, key);
+    let behind = put_number(b, value, n);
+    put_byte(b, behind, 10)
 }
 
 fn put_order(b: &mut [u8], at: usize, nets: &[u32]) -> usize
     requires { ⌜ at + length (printLine "order" (now nets)) ≤ length (now b) ⌝ }
     ensures { λ r. ⌜ Wrote at (printLine "order" (now (nets .entry))) (now (b .entry)) (now (b .exit)) r ⌝ }
 {
-    let a = put_text(b, at, b"order=");
-    let c = put_numbers(b, a, nets);
-    put_byte(b, c, 10)
+    let first = put_text(b, at, b"order=");
+    let last = put_numbers(b, first, nets);
+    put_byte(b, last, 10)
 }
 
 fn put_layers(b: &mut [u8], at: usize, layers: &[u8]) -> usize
     requires { ⌜ at + length (printLine "layers" (now layers)) ≤ length (now b) ⌝ }
     ensures { λ r. ⌜ Wrote at (printLine "layers" (now (layers .entry))) (now (b .entry)) (now (b .exit)) r ⌝ }
 {
-    let a = put_text(b, at, b"layers=");
-    let c = put_bytes(b, a, layers);
-    put_byte(b, c, 10)
+    let list = put_text(b, at, b"layers=");
+    let done = put_bytes(b, list, layers);
+    put_byte(b, done, 10)
 }
 
 // The three lines of net i.
@@ -145,15 +153,37 @@ fn put_net(b: &mut [u8], at: usize, i: usize, vias: u32, layers: &[u8]) -> usize
 
 // ---- the nets, as the net table has them
 
-// The lines of the net at place i of the table, counted from 0: it has the number i + 1.
+// Of the net at place i of the table, counted from 0: where its layers begin in the answer list, how many they are, and its vias.
+fn first_of(table: &[u32], i: usize) -> u32
+    requires { ⌜ (i < 4096) × (firstColumn i < length (now table)) ⌝ }
+    ensures { λ r. ⌜ r ≡ getD (now (table .entry)) (firstColumn i) 0 ⌝ }
+{
+    table[layout::first_column(i)]
+}
+
+fn count_of(table: &[u32], i: usize) -> u32
+    requires { ⌜ (i < 4096) × (countColumn i < length (now table)) ⌝ }
+    ensures { λ r. ⌜ r ≡ getD (now (table .entry)) (countColumn i) 0 ⌝ }
+{
+    table[layout::count_column(i)]
+}
+
+fn vias_of(table: &[u32], i: usize) -> u32
+    requires { ⌜ (i < 4096) × (viasColumn i < length (now table)) ⌝ }
+    ensures { λ r. ⌜ r ≡ getD (now (table .entry)) (viasColumn i) 0 ⌝ }
+{
+    table[layout::vias_column(i)]
+}
+
+// Its lines: it has the number i + 1.
 fn put_row(b: &mut [u8], at: usize, i: usize, table: &[u32], answer: &[u8]) -> usize
     requires { ⌜ RowInside (now table) (now answer) i ⌝ }
     requires { ⌜ at + length (rowText (now table) (now answer) i) ≤ length (now b) ⌝ }
     ensures { λ r. ⌜ Wrote at (rowText (now (table .entry)) (now (answer .entry)) i) (now (b .entry)) (now (b .exit)) r ⌝ }
 {
-    let first = table[layout::first_column(i)] as usize;
-    let count = table[layout::count_column(i)] as usize;
-    let vias = table[layout::vias_column(i)];
+    let first = first_of(table, i) as usize;
+    let count = count_of(table, i) as usize;
+    let vias = vias_of(table, i);
     put_net(b, at, i + 1, vias, &answer[first..first + count])
 }
 
@@ -209,9 +239,8 @@ pub fn put_refusal(b: &mut [u8], number: usize, line: usize) -> usize
     ensures { λ _. ⌜ now (b .exit) ≡ sets (now (b .entry)) 0 (written (refusal number line)) ⌝ }
     ensures { λ r. ⌜ r ≡ length (written (refusal number line)) ⌝ }
 {
-    let a = put_text(b, 0, b"refused=");
-    let c = put_number(b, a, number as u64);
-    let d = put_byte(b, c, 44);
-    let e = put_number(b, d, line as u64);
-    put_byte(b, e, 10)
+    let first = put_text(b, 0, b"refused=");
+    let second = put_number(b, first, number as u64);
+    let end = put_next(b, second, line as u64);
+    put_byte(b, end, 10)
 }

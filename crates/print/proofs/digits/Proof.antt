@@ -5,7 +5,8 @@ use Prim.Native.Nat.{_+_}
 use native.Mathlib.Omega.{arith}
 use lib.ListN.{length}
 use Rattle.model.specs.Text.{decimal}
-use Rattle.print.proofs.Steps.{tenth-long, one-long, digits-most}
+use Rattle.print.specs.Refusal.{digits-most}
+use Rattle.print.proofs.Steps.{tenth-long, one-long}
 use Rattle.print.proofs.digits.Statement.{statement}
 use Rattle.print.proofs.digits.Tie as tie
 

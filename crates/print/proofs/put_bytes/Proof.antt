@@ -29,28 +29,18 @@ loop-holds c =
     let p = c .before .before .put-number in
     (omega arith, refl, others-room (s .args .xs .now) (omega arith) (p .ensures) (s .pre), left-start _ _ _)
 
-put-byte-requires : tie.Need-put-byte-requires Inv-loop μ-loop
-put-byte-requires c κs =
-    let l = c .before .before in
+put-next-requires : tie.Need-put-next-requires Inv-loop μ-loop
+put-next-requires c κs =
+    let l = c .before .before .before in
     let s = l .before .before .before .before .before .before .before .before .before in
-    omega (arith, turn-room (s .args .xs .now) (l .loop .i) (omega arith) (l .loop .inv .3) (l .loop .inv .2))
-
-put-number-requires-2 : tie.Need-put-number-requires-2 Inv-loop μ-loop
-put-number-requires-2 c κs =
-    let p = c .before .before .before .before in
-    let l = p .before .before .before in
-    let s = l .before .before .before .before .before .before .before .before .before in
-    let h : l .loop .i < length (s .args .xs .now) = omega arith in
-    omega (arith, p .put-byte .ensures .next, wrote-long (p .put-byte .ensures), turn-room (s .args .xs .now) (l .loop .i) h (l .loop .inv .3) (l .loop .inv .2))
+    turn-room (s .args .xs .now) (l .loop .i) (omega arith) (l .loop .inv .3) (l .loop .inv .2)
 
 loop-again : tie.Need-loop-again Inv-loop μ-loop
 loop-again c =
-    let q = c .before .before in
-    let p = q .before .before .before .before .before in
-    let l = p .before .before .before in
+    let l = c .before .before .before .before .before .before in
     let s = l .before .before .before .before .before .before .before .before .before in
     let h : l .loop .i < length (s .args .xs .now) = omega arith in
-    (omega arith, refl, l .loop .inv .2, turn-more (s .args .xs .now) (l .loop .i) h (l .loop .inv .3) (p .put-byte .ensures) (q .put-number2 .ensures))
+    (omega arith, refl, l .loop .inv .2, turn-more (s .args .xs .now) (l .loop .i) h (l .loop .inv .3) (c .before .before .put-next .ensures))
 
 returns-2 : tie.Need-returns-2 Inv-loop μ-loop
 returns-2 c =
@@ -70,10 +60,9 @@ put-bytes-spec =
     (λ c. omega (arith, c .shared-slice-known2 .given 0))
     put-number-requires
     loop-holds
-    put-byte-requires
     (λ c. omega arith)
-    (λ c. omega (arith, c .shared-slice-known3 .given (c .before .before .before .before .before .before .before .loop .i)))
-    put-number-requires-2
+    (λ c. omega (arith, c .shared-slice-known3 .given (c .before .before .before .loop .i)))
+    put-next-requires
     (λ c. omega arith)
     (λ c. omega arith)
     loop-again
