@@ -1,2 +1,4 @@
 mod PinTurns
 mod Marked
+mod EdgeTurns
+mod Whole

@@ -4,19 +4,21 @@ use text::Entry;
 ghost use mathlib.Core.Bool.{true};
 ghost use mathlib.Core.Path.{_≡_};
 ghost use Prim.Native.Nat.{ℕ, _+_, _-_, _*_, _<_, _≤_, min};
-ghost use lib.ListN.{length};
+ghost use lib.ListN.{length, getD};
 ghost use Rattle.layout.specs.Areas.{tilesAt, areasEnd};
 ghost use Rattle.layout.specs.Parts.{Outside};
 ghost use Rattle.layout.specs.Shapes.{Shaped};
-ghost use Rattle.marks.specs.Marks.{marksAfter};
-ghost use Rattle.model.specs.Job.{Net};
+ghost use Rattle.marks.specs.Marks.{marksAfter, Older};
+ghost use Rattle.model.specs.Job.{Net, Job};
 ghost use Rattle.model.specs.Read.{edgeInside};
 ghost use Rattle.net.specs.AtHand.{tilesOf};
-ghost use Rattle.net.specs.Table.{PinsAt};
+ghost use Rattle.net.specs.Left.{EdgesThere};
+ghost use Rattle.net.specs.Table.{PinsAt, EdgesAt};
 ghost use Rattle.scan.specs.Pins.{triple};
 ghost use Rattle.ways.specs.Ends.{endsAfter};
 ghost use Rattle.netread.specs.Pins.{PinsThere, PinsMarked};
-ghost use Rattle.netread.specs.Edges.{EdgeMarked};
+ghost use Rattle.netread.specs.Edges.{EdgeMarked, EdgesMarked};
+ghost use Rattle.netread.specs.Net.{NetThere, LinesOf, NetRead};
 
 // What was read of a net again: its lowest tile, and how many edges it has.
 pub struct Again {
@@ -94,4 +96,55 @@ fn mark_edge(w: &mut [u32], g: Shape, stamp: u32, v: Again, x: usize, y: usize, 
         low: lower(v.low, here),
         edges: v.edges + 1,
     }
+}
+
+// Marks and lists the edges whose entries stand at `at`, one or more.
+fn mark_entries(s: &[u8], at: usize, w: &mut [u32], g: Shape, stamp: u32, low: usize) -> Again
+    requires { ⌜ Shaped g ⌝ }
+    requires { ⌜ (areasEnd g ≤ length (now w)) × (stamp ≤ 8192) ⌝ }
+    requires { ⌜ EdgesThere (now s) g at × (getD (now s) at 0 ≡ 10 → ⊥) ⌝ }
+    ensures { λ r. ⌜ ((n : Net) → EdgesAt (now (s .entry)) (g .w) (g .h) at n → EdgesMarked g stamp low (n .edges) (now (w .entry)) (now (w .exit)) r) ⌝ }
+{
+    let mut i = at;
+    let mut v = Again { low, edges: 0 };
+    loop {
+        match text::edge_at(s, i) {
+            Entry::Bad => {
+                return v;
+            }
+            Entry::Last(x, y, d, _) => {
+                return mark_edge(w, g, stamp, v, x, y, d);
+            }
+            Entry::More(x, y, d, next) => {
+                v = mark_edge(w, g, stamp, v, x, y, d);
+                i = next;
+            }
+        }
+    }
+}
+
+// Marks and lists the edges of the line at `at`, which may be empty.
+pub fn mark_edges(s: &[u8], at: usize, w: &mut [u32], g: Shape, stamp: u32, low: usize) -> Again
+    requires { ⌜ Shaped g ⌝ }
+    requires { ⌜ (areasEnd g ≤ length (now w)) × (stamp ≤ 8192) ⌝ }
+    requires { ⌜ EdgesThere (now s) g at ⌝ }
+    ensures { λ r. ⌜ ((n : Net) → EdgesAt (now (s .entry)) (g .w) (g .h) at n → EdgesMarked g stamp low (n .edges) (now (w .entry)) (now (w .exit)) r) ⌝ }
+{
+    if s[at] == 10 {
+        return Again { low, edges: 0 };
+    }
+    mark_entries(s, at, w, g, stamp, low)
+}
+
+// Reads the lines of a net again, whose entries stand at `pins` and `edges`: the net is then at hand.
+pub fn read_net(s: &[u8], pins: usize, edges: usize, w: &mut [u32], g: Shape, stamp: u32) -> Again
+    requires { ⌜ Shaped g ⌝ }
+    requires { ⌜ (areasEnd g ≤ length (now w)) × (stamp ≤ 8192) × Older stamp (tilesOf g (now w)) ⌝ }
+    requires { ⌜ NetThere (now s) g pins edges ⌝ }
+    ensures { λ r. ⌜ ((j : Job) (n : Net) → LinesOf (now (s .entry)) g pins edges j n → NetRead g stamp j n (now (w .entry)) (now (w .exit)) r) ⌝ }
+{
+    let from = layout::tiles_at(g);
+    let to = layout::links_at(g);
+    let low = mark_pins(s, pins, &mut w[from..to], g, stamp);
+    mark_edges(s, edges, w, g, stamp, low)
 }
