@@ -1,5 +1,4 @@
 mod Grid
-mod Parts
 mod Turns
 mod Loop
 mod Law

@@ -1,6 +1,8 @@
 -- Where each part of the working numbers starts.
 -- Assumes nothing.
-use Prim.Native.Nat.{ℕ, _+_, _*_}
+use Prim.Native.Nat.{ℕ, _+_, _*_, _≤_, _<_}
+use native.Mathlib.Nat.{mul-le-mul-right}
+use native.Mathlib.Omega.{arith}
 use Rattle.layout.specs.declared.Shape.{Shape}
 
 -- the capacities stand from 0 on, at edge × K + (layer − 1); the nets on each layer likewise from here on
@@ -45,3 +47,7 @@ engineAt g = aboveAt g + g .t
 -- where the last of them ends
 abbrev pub areasEnd : Shape → ℕ
 areasEnd g = engineAt g + 12 * g .t
+
+-- an edge's K numbers lie within the K × E of all edges
+pub edge-room : (g : Shape) (e : ℕ) → e < g .e → e * g .k + g .k ≤ loadsAt g
+edge-room g e h = omega (arith, mul-le-mul-right (g .k) h)

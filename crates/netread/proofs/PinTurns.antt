@@ -46,7 +46,7 @@ module _ (s : List ℕ) (g : Shape) (n at : ℕ) where
 
     module _ (x y z next : ℕ) where
       last-only : Last x y z next ≡ pinEntryAt s i → left .entries ≡ triple x y z ∷ []
-      last-only e = one-line (left .entries) (triple x y z ∷ []) (left .rest) (drop next s) (sym (left .there) ∙ pin-is s i (Last x y z next) e)
+      last-only e = one-line (left .entries) (triple x y z ∷ []) (left .rest) (drop next s) (sym (left .there) ∙ pin-is s i (Last x y z next) e .0)
 
       pub last-inside : Last x y z next ≡ pinEntryAt s i → (x < g .w) × (y < g .h) × (1 ≤ z) × (z ≤ g .k)
       last-inside e = inside-is (g .w) (g .h) (g .k) x y z

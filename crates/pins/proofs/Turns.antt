@@ -18,7 +18,7 @@ use Rattle.scan.specs.Pins.{triple, pinsOf, pin-is}
 use Rattle.text.specs.Entries.{pinEntryAt}
 use Rattle.text.specs.declared.Entry.the-variants.{More, Last, Bad}
 use Rattle.text.specs.declared.Fault.the-variants.{Form, Range, PinTwice}
-use Rattle.pins.specs.Pins.{markPin, markPins, markedTwice, newTiles, Marked, markedSeen, seenAfter, workAfter, verdictOf, answered, finish}
+use Rattle.pins.specs.Pins.{markPin, markPins, markedTwice, newTiles, Marked, markedSeen, seenAfter, workAfter, verdictOf, NextIn, answered, finish}
 use Rattle.pins.specs.declared.PinsRead.{PinsRead}
 use Rattle.pins.specs.declared.PinsRead.the-variants.{Line, Bad as Faulty}
 use Rattle.pins.specs.declared.Seen.{Seen}
@@ -107,8 +107,18 @@ module _ (g : Shape) (n : ℕ) (s : List ℕ) (i : ℕ) (v : Seen) (a : List ℕ
 
     pub turn-last : (r : PinsRead) → r ≡ verdictOf v' next → Last x y z next ≡ pinEntryAt s i → (l : ℕ) → finish g n l v a (pinsOf (drop i s)) ≡ answered l s a' r
     turn-last r h e l =
-        rw (pin-is s i (Last x y z next) e)
+        rw (pin-is s i (Last x y z next) e .0)
         (finish-some g n l v a (triple x y z) ([], drop next s) ∙ sym (λ j. finish g n l (p j) (q j) (some ([], drop next s))) ∙ finish-end g n l v' a' s next ∙ ap (answered l s a') (sym h))
 
 pub turn-place : (s : List ℕ) (i x y z next : ℕ) → More x y z next ≡ pinEntryAt s i → (i < next) × (next ≤ length s)
 turn-place s i x y z next e = (pin-is s i (More x y z next) e .1, pin-is s i (More x y z next) e .2)
+
+-- the place after the line is in the text
+pub last-place : (s : List ℕ) (i x y z next : ℕ) → Last x y z next ≡ pinEntryAt s i → (v : Seen) (r : PinsRead) → r ≡ verdictOf v next → NextIn (length s) r
+unfolding verdictOf
+last-place s i x y z next e v r h = rw h (go (v .inside) (v .twice))
+  where
+    go : (p q : Bool) → NextIn (length s) (cond p (cond q (Faulty PinTwice) (Line next (v .entries) (v .tiles))) (Faulty Range))
+    go true true = tt
+    go true false = pin-is s i (Last x y z next) e .1
+    go false q = tt

@@ -3,7 +3,7 @@
 use mathlib.Core.Bool.{Bool, true, false, _&&_, _||_, not, cond}
 use mathlib.Core.List.{List, [], _∷_, map}
 use mathlib.Core.Option.{Option, none, some}
-use Prim.Native.Nat.{ℕ, _+_, _-_, _*_}
+use Prim.Native.Nat.{ℕ, _+_, _-_, _*_, _≤_}
 use lib.Dec.{eqb}
 use lib.ListN.{length, drop}
 use Rattle.layout.specs.declared.Shape.{Shape}
@@ -75,6 +75,11 @@ unfoldable pub verdictOf : Seen → ℕ → PinsRead
 verdictOf v next = cond (v .inside) (cond (v .twice) (Bad PinTwice) (Line next (v .entries) (v .tiles))) (Bad Range)
 
 -- ---- the line
+
+-- the place after a fine line is in a text of this size
+abbrev pub NextIn : ℕ → PinsRead → Type 0
+NextIn size (Bad f) = Unit {0}
+NextIn size (Line next e t) = next ≤ size
 
 -- the answer in the definitions' words: a refusal with its line, or what the line leaves and the next place
 abbrev pub answered : ℕ → List ℕ → List ℕ → PinsRead → Result Marked

@@ -11,7 +11,7 @@ ghost use Rattle.layout.specs.Shapes.{Shaped};
 ghost use Rattle.marks.specs.Marks.{marksAfter, Older};
 ghost use Rattle.model.specs.Read.{pinInside, pinsLine};
 ghost use Rattle.scan.specs.Pins.{triple, pinsOf};
-ghost use Rattle.pins.specs.Pins.{markedSeen, seenAfter, workAfter, verdictOf, start, answered, finish, mapped, pinsMarked};
+ghost use Rattle.pins.specs.Pins.{markedSeen, seenAfter, workAfter, verdictOf, NextIn, start, answered, finish, mapped, pinsMarked};
 
 // What the entries of a line have shown so far: how many they are, in how many tiles, all inside the grid, one of them twice.
 pub struct Seen {
@@ -118,6 +118,7 @@ pub fn pins(s: &[u8], at: usize, a: &mut [u32], g: Shape, stamp: u32) -> PinsRea
     requires { ⌜ Shaped g ⌝ }
     requires { ⌜ (g .t ≤ length (now a)) × (stamp ≤ 8192) × (length (now s) ≤ 1048576) ⌝ }
     ensures { λ r. ⌜ ((n : ℕ) → answered n (now (s .entry)) (now (a .exit)) r ≡ finish g stamp n start (now (a .entry)) (pinsOf (drop at (now (s .entry))))) ⌝ }
+    ensures { λ r. ⌜ NextIn (length (now (s .entry))) r ⌝ }
     ensures { λ _. ⌜ length (now (a .exit)) ≡ length (now (a .entry)) ⌝ }
 {
     let mut i = at;
@@ -150,6 +151,7 @@ pub fn pins_line(s: &[u8], at: usize, a: &mut [u32], g: Shape, stamp: u32) -> Pi
     requires { ⌜ (g .t ≤ length (now a)) × (stamp ≤ 8192) × (length (now s) ≤ 1048576) × (at ≤ length (now s)) ⌝ }
     requires { ⌜ Older stamp (now a) ⌝ }
     ensures { λ r. ⌜ ((n : ℕ) → answered (n + 1) (now (s .entry)) (now (a .exit)) r ≡ mapped (pinsMarked stamp (now (a .entry))) (pinsLine (g .w) (g .h) (g .k) (record { line = n; rest = drop at (now (s .entry)) }))) ⌝ }
+    ensures { λ r. ⌜ NextIn (length (now (s .entry))) r ⌝ }
     ensures { λ _. ⌜ length (now (a .exit)) ≡ length (now (a .entry)) ⌝ }
 {
     if !text::key_at(s, at, b"pins=") {

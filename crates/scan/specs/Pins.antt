@@ -87,7 +87,7 @@ comma-says f g b last s i = go (numberAt s i) refl
 
 abbrev pub PinSays : List ℕ → ℕ → Entry → Type 0
 PinSays s i (More x y l next) = (pinsOf (drop i s) ≡ consTo (some (triple x y l)) (pinsOf (drop next s))) × (i < next) × (next ≤ length s)
-PinSays s i (Last x y l next) = pinsOf (drop i s) ≡ some (triple x y l ∷ [], drop next s)
+PinSays s i (Last x y l next) = (pinsOf (drop i s) ≡ some (triple x y l ∷ [], drop next s)) × (next ≤ length s)
 PinSays s i Bad = pinsOf (drop i s) ≡ none
 
 pub pin-says : (s : List ℕ) (i : ℕ) → PinSays s i (pinEntryAt s i)
@@ -118,7 +118,10 @@ pin-says s i = go1 (commaAt s i) (comma-says pin pin begins-0 (λ p. refl) s i)
                   omega (arith, h .2, k .2, number-is s q l n e .1),
                   omega (arith, getD-in s n 59 (eqb-true (getD s n 0) 59 a) (omega arith)),
                 )
-                go4 false true a b = h .1 ∙ k .1 ∙ then-newline (λ ps. pin (run s i ∷ run s p ∷ ps)) pin s q l n e (eqb-true (getD s n 0) 10 b) ∙ rw one
+                go4 false true a b = (
+                  h .1 ∙ k .1 ∙ then-newline (λ ps. pin (run s i ∷ run s p ∷ ps)) pin s q l n e (eqb-true (getD s n 0) 10 b) ∙ rw one,
+                  omega (arith, getD-in s n 10 (eqb-true (getD s n 0) 10 b) (omega arith)),
+                )
                 go4 false false a b =
                     h .1 ∙ k .1
                     ∙ then-no-break (λ ps. pin (run s i ∷ run s p ∷ ps)) pin s q l n e (begins-2 (run s i) (run s p)) (λ p q ps. refl) (eqb-false (getD s n 0) 59 a) (eqb-false (getD s n 0) 10 b)

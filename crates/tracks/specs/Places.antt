@@ -7,7 +7,7 @@ use Prim.Native.Nat.{ℕ, suc, _+_, _-_, _*_, _≤_, _<_}
 use native.Mathlib.Nat.{mul-le-mul-right}
 use native.Mathlib.Omega.{arith}
 use lib.ListN.{getD}
-use Rattle.layout.specs.Areas.{loadsAt}
+pub use Rattle.layout.specs.Areas.{edge-room}
 use Rattle.layout.specs.declared.Shape.{Shape}
 use Rattle.model.specs.Job.{Job, capacity}
 use Rattle.model.specs.Limits.{mostCapacity}
@@ -24,10 +24,6 @@ cap-at g j w c e i h k =
 
 pub small-capacities : (g : Shape) (j : Job) (w : List ℕ) → Capacities g j w → ((e l : ℕ) → capacity j e l ≤ mostCapacity) → SmallCapacities g w
 small-capacities g j w c small e l h k = omega (arith, cap-at g j w c e l h k, small e (suc l))
-
--- an edge's K numbers lie within the K × E of all edges
-pub edge-room : (g : Shape) (e : ℕ) → e < g .e → e * g .k + g .k ≤ loadsAt g
-edge-room g e h = omega (arith, mul-le-mul-right (g .k) h)
 
 -- two edges have different places
 later : (k a b i l : ℕ) → a < b → i < k → a * k + i < b * k + l

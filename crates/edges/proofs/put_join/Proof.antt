@@ -9,7 +9,7 @@ use Rattle.layout.specs.Areas.{linksAt}
 use Rattle.layout.specs.Parts.{part-long}
 use Rattle.union.specs.Links.{Merged}
 use Rattle.edges.specs.Reading.{linksOf}
-use Rattle.edges.proofs.Parts.{lent-part, put-part, put-outside}
+use Rattle.layout.specs.Lent.{lent-part, put-part, put-outside}
 use Rattle.edges.proofs.put_join.Statement.{statement}
 use Rattle.edges.proofs.put_join.Tie as tie
 

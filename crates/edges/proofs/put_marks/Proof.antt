@@ -10,7 +10,7 @@ use Rattle.layout.specs.Areas.{tilesAt}
 use Rattle.layout.specs.Parts.{part-long}
 use Rattle.ways.specs.Ends.{endsOf, endsAfter, ends-long}
 use Rattle.edges.specs.Reading.{tilesOf}
-use Rattle.edges.proofs.Parts.{lent-part, put-part, put-outside}
+use Rattle.layout.specs.Lent.{lent-part, put-part, put-outside}
 use Rattle.edges.proofs.put_marks.Statement.{statement}
 use Rattle.edges.proofs.put_marks.Tie as tie
 

@@ -9,7 +9,7 @@ use Rattle.scan.specs.Pins.{triple, pinsOf}
 use Rattle.pins.specs.Pins.{start, finish}
 use Rattle.pins.specs.declared.Seen.{Seen}
 use Rattle.pins.proofs.Entries.{work-long, seen-counts}
-use Rattle.pins.proofs.Turns.{turn-bad, turn-more, turn-last, turn-place}
+use Rattle.pins.proofs.Turns.{turn-bad, turn-more, turn-last, turn-place, last-place}
 use Rattle.pins.proofs.pins.Statement.{statement}
 use Rattle.pins.proofs.pins.Tie as tie
 
@@ -25,7 +25,7 @@ returns : tie.Need-returns Inv-loop μ-loop
 returns c =
     let l = c .before .before .before in
     let x = c .before .before .before .before .before .before .args in
-    (λ n. sym (l .loop .inv .4 n ∙ turn-bad (x .g) (x .stamp) (x .s .now) (l .loop .i) (l .loop .v) (l .loop .a) (sym (c .enum-told .given .1) ∙ c .before .before .pin-at .ensures) n), l .loop .inv .0)
+    (λ n. sym (l .loop .inv .4 n ∙ turn-bad (x .g) (x .stamp) (x .s .now) (l .loop .i) (l .loop .v) (l .loop .a) (sym (c .enum-told .given .1) ∙ c .before .before .pin-at .ensures) n), (tt, l .loop .inv .0))
 
 same-length-2 : tie.Need-same-length-2 Inv-loop μ-loop
 same-length-2 c =
@@ -44,7 +44,11 @@ returns-2 c =
       λ n. sym (l .loop .inv .4 n ∙ turn-last (x .g) (x .stamp) (x .s .now) (l .loop .i) (l .loop .v) (l .loop .a)
           (e .0 .0) (e .0 .1 .0) (e .0 .1 .1 .0) (e .0 .1 .1 .1 .0) (p .result) (p .last .0) (p .ensures .0) (p .ensures .1) (c .verdict .result) (c .verdict .ensures)
           (sym (e .1) ∙ c .before .before .before .before .before .before .before .before .pin-at .ensures) n),
-      ap length (p .ensures .1) ∙ work-long (x .g) (x .stamp) (l .loop .a) (triple (e .0 .0) (e .0 .1 .0) (e .0 .1 .1 .0)) ∙ l .loop .inv .0,
+      (
+        last-place (x .s .now) (l .loop .i) (e .0 .0) (e .0 .1 .0) (e .0 .1 .1 .0) (e .0 .1 .1 .1 .0)
+            (sym (e .1) ∙ c .before .before .before .before .before .before .before .before .pin-at .ensures) (p .result) (c .verdict .result) (c .verdict .ensures),
+        ap length (p .ensures .1) ∙ work-long (x .g) (x .stamp) (l .loop .a) (triple (e .0 .0) (e .0 .1 .0) (e .0 .1 .1 .0)) ∙ l .loop .inv .0,
+      ),
     )
 
 loop-less : tie.Need-loop-less Inv-loop μ-loop

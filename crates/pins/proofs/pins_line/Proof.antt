@@ -12,7 +12,7 @@ returns : tie.Need-returns
 returns c =
     let x = c .before .before .before .before .before .args in
     let r = c .before .before .before .before .before .pre in
-    (λ n. line-no-key (x .g) (r .0) (x .stamp) (x .a .now) (r .1 .1) (r .1 .0 .0) n (x .s .now) (x .at) (sym (c .before .key-at .ensures) ∙ not-true _ (c .if1 .taken)), refl)
+    (λ n. line-no-key (x .g) (r .0) (x .stamp) (x .a .now) (r .1 .1) (r .1 .0 .0) n (x .s .now) (x .at) (sym (c .before .key-at .ensures) ∙ not-true _ (c .if1 .taken)), (tt, refl))
 
 returns-2 : tie.Need-returns-2
 returns-2 c =

@@ -1,0 +1,183 @@
+-- The `pins` and `edges` lines of a net, one after the other.
+-- Assumes nothing.
+use mathlib.Core.List.{List, []}
+use mathlib.Core.Path.{_≡_, refl, sym, ap, ap₂, _∙_, subst}
+use Prim.Native.Nat.{ℕ, _+_, _*_, _≤_, _<_}
+use native.Mathlib.Omega.{arith}
+use lib.ListN.{length, drop}
+use Rattle.edges.specs.Line.{LineFound, LineRead}
+use Rattle.edges.specs.Pins.{PinsFound, pins-found, pins-reading, pins-begun}
+use Rattle.edges.specs.Reading.{tilesOf, linksOf, edgesOn, Reading, Few, Begun}
+use Rattle.edges.specs.declared.EdgesRead.{EdgesRead}
+use Rattle.edges.specs.declared.EdgesRead.the-variants.{Bad as BadEdges}
+use Rattle.layout.specs.Areas.{demandAt, tilesAt, chosenAt}
+use Rattle.layout.specs.Parts.{Outside}
+use Rattle.layout.specs.Shapes.{Shaped}
+use Rattle.layout.specs.Table.{tableSize}
+use Rattle.layout.specs.declared.Shape.{Shape}
+use Rattle.lines.specs.Told.{refusedBy}
+use Rattle.marks.specs.Marks.{fits-older}
+use Rattle.model.specs.Job.{Net}
+use Rattle.model.specs.Read.{Place, Result, refused, found, pinsLine, edgesLine}
+use Rattle.net.specs.Table.{EdgesAt}
+use Rattle.pins.specs.Pins.{NextIn, answered, mapped, pinsMarked}
+use Rattle.pins.specs.declared.PinsRead.{PinsRead}
+use Rattle.pins.specs.declared.PinsRead.the-variants.{Bad as BadPins, Line as PinsLine}
+use Rattle.text.specs.Refusals.{placeOf, faultNumber}
+use Rattle.text.specs.declared.Cursor.{Cursor}
+use Rattle.text.specs.declared.Fault.{Fault}
+use Rattle.text.specs.declared.Refusal.the-variants.{Line}
+use Rattle.theory.specs.links.Edges.{nearOf}
+use Rattle.theory.specs.links.Nets.{NetOk, tree-of}
+use Rattle.theory.specs.links.Reach.{loOf, hiOf}
+use Rattle.theory.specs.links.Reading.{PinsOk, EdgesOk, gives-found, pins-give, edges-give}
+use Rattle.theory.specs.links.Scores.{pins-few}
+use Rattle.theory.specs.walk.GridNet.{net-room}
+use Rattle.union.specs.Links.{links-older}
+use Rattle.reader.specs.Rows.{rowPut}
+use Rattle.reader.specs.Nets.{bodyIn, NetReady, NetCounted, NetFound}
+use Rattle.reader.proofs.Stand.{pins-stand, row-long, row-others, row-stands}
+
+-- a net whose two lines the definitions found
+net-ok : (W H K : ℕ) (net : Net) (p q r t : Place) → pinsLine W H K p ≡ found (net .pins) q → edgesLine W H (net .pins) r ≡ found (net .edges) t → NetOk W H K net
+net-ok W H K net p q r t a b =
+    go (gives-found (PinsOk W H K) (pinsLine W H K p) (net .pins) q a (pins-give W H K p))
+    (gives-found (EdgesOk W H K (net .pins)) (edgesLine W H (net .pins) r) (net .edges) t b (edges-give W H K (net .pins) r))
+  where
+    go : PinsOk W H K (net .pins) → EdgesOk W H K (net .pins) (net .edges) → NetOk W H K net
+    go x y = record {
+      some-pin = x .0;
+      pins-inside = x .1;
+      pins-layers = x .2;
+      pins-once = x .3;
+      known = y .0;
+      once = y .1;
+      no-ring = y .2;
+      reached = y .3;
+    }
+
+-- it has fewer edges than there are tiles
+pub few-edges : (g : Shape) → Shaped g → (net : Net) → NetOk (g .w) (g .h) (g .k) net → length (net .edges) < 4096
+few-edges g shaped net ok =
+    omega (
+      arith,
+      net-room (loOf (g .w) (g .h)) (hiOf (g .w) (g .h)) (nearOf (g .w) (g .h)) (g .w * g .h) (net .pins) (net .edges)
+          (tree-of (g .w) (g .h) (g .k) (shaped .w-least) (shaped .h-least) net ok),
+      shaped .t-is,
+      shaped .t-most,
+    )
+
+-- a refusal is not changed by what else is told of a fine line
+module _ {A B : Type 0} where
+  mapped-refused : (f : A → B) (r : Result A) (n l : ℕ) → refused n l ≡ mapped f r → r ≡ refused n l
+  mapped-refused f (refused a b) n l e = sym (ap₂ {C = Result A} (λ x y. refused x y) (let y : n ≡ a = cc in y) (let y : l ≡ b = cc in y))
+  mapped-refused f (found a p) n l e = absurd (let y : _≡_ {A = ℕ} 0 1 = cc in omega arith)
+
+-- the place after a fine `pins` line
+pub next-in : (size : ℕ) (r : PinsRead) (n e t : ℕ) → r ≡ PinsLine n e t → NextIn size r → n ≤ size
+next-in size r n e t k h = rw k at h
+
+module _ (s : List ℕ) (c : Cursor) (g : Shape) (shaped : Shaped g) (i : ℕ) (w₀ : List ℕ) (ready : NetReady g i w₀) where
+  abbrev W : ℕ
+  W = g .w
+
+  abbrev H : ℕ
+  H = g .h
+
+  abbrev K : ℕ
+  K = g .k
+
+  -- the `pins` line is refused
+  pub pins-bad : (a : List ℕ) (r : PinsRead) → ((l : ℕ) → answered (l + 1) s a r ≡ mapped (pinsMarked (i + 1) (tilesOf g w₀)) (pinsLine (g .w) (g .h) (g .k) (record { line = l; rest = drop (c .at) s })))
+      → (f : Fault) → r ≡ BadPins f → bodyIn (g .w) (g .h) (g .k) (placeOf s c) ≡ refusedBy (Line f (c .line + 1))
+  unfolding bodyIn
+  pins-bad a r told f e =
+      rw (mapped-refused (pinsMarked (i + 1) (tilesOf g w₀)) (pinsLine W H K (placeOf s c)) (faultNumber f) (c .line + 1)
+      (ap (answered (c .line + 1) s a) (sym e) ∙ told (c .line)))
+
+  -- it is fine
+  module _ (w₁ : List ℕ) (nextAt entries tiles : ℕ)
+      (told : answered (c .line + 1) s (tilesOf g w₁) (PinsLine nextAt entries tiles)
+      ≡ mapped (pinsMarked (i + 1) (tilesOf g w₀)) (pinsLine (g .w) (g .h) (g .k) (record { line = c .line; rest = drop (c .at) s })))
+      (out : Outside (tilesAt g) (g .t) w₀ w₁) where
+    pub fine : PinsFound g (i + 1) s (c .at) (c .line) (tilesOf g w₀) (tilesOf g w₁) nextAt entries tiles
+    fine = pins-found g shaped (i + 1) s (c .at) (c .line) (tilesOf g w₀) (tilesOf g w₁) nextAt entries tiles told
+
+    pub still-few : Few g (i + 1) w₁
+    still-few e h = omega (arith, out .low (demandAt g + e) (omega arith), ready .few e h)
+
+    pub still-room : chosenAt g ≤ length w₁
+    still-room = omega (arith, out .long, ready .room)
+
+    pub begun : Begun g (i + 1) tiles w₁
+    begun =
+        subst (λ (k : ℕ). Begun g (i + 1) k w₁) (sym (fine .parts))
+        (pins-begun g (i + 1) (fine .pins) (fine .fit) w₀ w₁ (ready .room) (λ t. omega (arith, ready .marks t)) (λ t. omega (arith, ready .links t)) out (fine .marks))
+
+    pub reading : Reading g (i + 1) (fine .pins) [] tiles w₀ w₁
+    reading =
+        subst (λ (k : ℕ). Reading g (i + 1) (fine .pins) [] k w₀ w₁) (sym (fine .parts))
+        (pins-reading g (i + 1) (fine .pins) (fine .fit) w₀ w₁ (ready .room) (λ t. omega (arith, ready .marks t)) (λ t. omega (arith, ready .links t)) out (fine .marks))
+
+    -- the `edges` line is refused
+    pub edges-bad : (w₂ : List ℕ) (r : EdgesRead) → LineRead g (i + 1) s nextAt (fine .pins) w₀ w₂ r → (f : Fault) → r ≡ BadEdges f
+        → bodyIn (g .w) (g .h) (g .k) (placeOf s c) ≡ refusedBy (Line f (c .line + 2))
+    unfolding bodyIn
+    edges-bad w₂ r line f e =
+        let y : c .line + 1 + 1 ≡ c .line + 2 = omega arith in
+        rw (fine .is, subst (λ (z : EdgesRead). LineRead g (i + 1) s nextAt (fine .pins) w₀ w₂ z) e line (c .line + 1), y)
+
+    -- it is fine
+    module _ (w₂ : List ℕ) (after count : ℕ) (line : LineFound g (i + 1) s nextAt (fine .pins) w₀ w₂ after count) where
+      abbrev net : Net
+      net = record { pins = fine .pins; edges = edgesOn g (line .line .entries) }
+
+      pub ok : NetOk (g .w) (g .h) (g .k) (record { pins = fine .pins; edges = edgesOn g (line .line .entries) })
+      ok = net-ok W H K net (placeOf s c) _ _ _ (fine .is) (line .is 0)
+
+      pub pins-number : entries ≤ 16777216
+      pins-number = omega (arith, fine .count, pins-few W H K net (shaped .k-most) ok, shaped .t-is, shaped .t-most)
+
+      stands : EdgesAt s (g .w) (g .h) (nextAt + 6) (record { pins = fine .pins; edges = edgesOn g (line .line .entries) })
+      stands = record {
+        entries = line .line .entries;
+        rest = drop after s;
+        there = line .line .text;
+        inside = line .line .inside;
+        are = refl;
+      }
+
+      pub edges-number : count ≤ 4096
+      edges-number = omega (arith, line .line .count-is, few-edges g shaped net ok)
+
+      found-is : bodyIn (g .w) (g .h) (g .k) (placeOf s c)
+          ≡ found (record { pins = fine .pins; edges = edgesOn g (line .line .entries) }) (placeOf s (record { at = after; line = c .line + 2 }))
+      unfolding bodyIn
+      found-is = let y : c .line + 1 + 1 ≡ c .line + 2 = omega arith in rw (fine .is, line .is (c .line + 1), y)
+
+      counted : NetCounted g i (record { pins = fine .pins; edges = edgesOn g (line .line .entries) }) w₀ w₂
+      counted =
+          let r = line .line .reading in
+          record {
+            long = r .long;
+            low = r .low;
+            demand = r .demand;
+            marks = λ t. omega (arith, fits-older (i + 1) (tilesOf g w₂) (r .fits) t);
+            links = λ t. omega (arith, links-older (i + 1) (linksOf g w₂) (r .links) t);
+          }
+
+      pub body-found : (table : List ℕ) (first : ℕ) → tableSize ≤ length table
+          → NetFound s g i first (c .line + 2) w₀ w₂ table (rowPut table i (c .at + 5) (nextAt + 6) entries first count) (bodyIn (g .w) (g .h) (g .k) (placeOf s c))
+          (record { at = after; line = c .line + 2 }) count
+      body-found table first room = record {
+        net = net;
+        is = found-is;
+        after = record { place = line .line .place; lines = refl };
+        count-is = line .line .count-is;
+        counted = counted;
+        row =
+            row-stands table i (c .at + 5) (nextAt + 6) entries first count (ready .turn) room s W H K net
+            (pins-stand s W H K (c .at) net (c .line) _ (fine .is)) stands (fine .count) (line .line .count-is);
+        table-long = row-long table i (c .at + 5) (nextAt + 6) entries first count (ready .turn) room;
+        rows-before = row-others table i (c .at + 5) (nextAt + 6) entries first count (ready .turn) room;
+      }

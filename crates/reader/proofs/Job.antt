@@ -1,0 +1,146 @@
+-- The head, and behind it the rest: the job, and what the working numbers hold of it.
+-- Assumes nothing.
+use mathlib.Core.Bool.{Bool, true, false}
+use mathlib.Core.List.{List}
+use mathlib.Core.Path.{_≡_, refl, sym, ap, _∙_, subst}
+use Prim.Native.Nat.{ℕ, suc, _+_, _-_, _*_, _≤_, _<_}
+use native.Mathlib.Omega.{arith}
+use borrow.Author.Tests.{leb-true}
+use lib.Dec.{leb}
+use lib.ListN.{length, drop, getD}
+use lib.Seq.{getD-drop}
+use Rattle.head.specs.Capacities.{capacity-in}
+use Rattle.head.specs.Reads.{HeadJob, headIn, restIn}
+use Rattle.head.specs.Told.{headJob, headTold, headHolds, Holds, read-by}
+use Rattle.head.specs.declared.Head.{Head}
+use Rattle.head.specs.declared.HeadRead.{HeadRead}
+use Rattle.head.specs.declared.HeadRead.the-variants.{Head as headed, Refused as Unheaded}
+use Rattle.layout.specs.Areas.{loadsAt, demandAt, areasEnd, edge-room}
+use Rattle.layout.specs.Shapes.{shapeOf, Shaped}
+use Rattle.layout.specs.Table.{tableSize}
+use Rattle.layout.specs.declared.Shape.{Shape}
+use Rattle.lines.specs.Told.{refusedBy}
+use Rattle.model.specs.Job.{Net, Job, netCount}
+use Rattle.model.specs.Limits.{mostText}
+use Rattle.model.specs.Read.{Place, found, next, Lent, workingNeed, need, read}
+use Rattle.net.specs.SoFar.{Capacities}
+use Rattle.net.specs.Table.{Row}
+use Rattle.text.specs.Refusals.{placeOf}
+use Rattle.text.specs.declared.Cursor.{Cursor}
+use Rattle.text.specs.declared.Refusal.{Refusal}
+use Rattle.theory.specs.links.Stretches.{offset}
+use Rattle.reader.specs.Nets.{SoRead, NetsReady, noNet, edgesOf}
+use Rattle.reader.specs.Rows.{RowAt}
+use Rattle.reader.specs.Whole.{lentBy, jobOf, RestFound, RestTold, JobFound, JobTold}
+use Rattle.reader.specs.declared.JobRead.{JobRead}
+use Rattle.reader.specs.declared.JobRead.the-variants.{Job as accepted, Refused}
+use Rattle.reader.specs.declared.PrintRoom.{PrintRoom}
+
+-- a head is read only from a text that is not too long
+pub text-fits : (size working order : ℕ) (p q : Place) (h : HeadJob) → headIn size working order p ≡ found h q → size ≤ mostText
+unfolding headIn
+text-fits size working order p q h e = go (leb size mostText) refl
+  where
+    go : (b : Bool) → leb size mostText ≡ b → size ≤ mostText
+    go true l = leb-true size mostText l
+    go false l = absurd (let y : _≡_ {A = ℕ} 0 1 = cc (rw l at e) in omega arith)
+
+-- what lies beyond a place is the same
+beyond-same : (a : ℕ) (x w : List ℕ) (k : ℕ) → drop a x ≡ drop a w → a ≤ k → getD x k 0 ≡ getD w k 0
+beyond-same a x w k e h =
+    let y : k ≡ a + (k - a) = omega arith in
+    ap (λ (m : ℕ). getD x m 0) y ∙ sym (getD-drop a x (k - a) 0) ∙ ap (λ (l : List ℕ). getD l (k - a) 0) e ∙ getD-drop a w (k - a) 0 ∙ ap (λ (m : ℕ). getD w m 0) (sym y)
+
+shape-is : (g : Shape) → Shaped g → g ≡ shapeOf (g .w) (g .h) (g .k)
+shape-is g shaped i = record { w = g .w; h = g .h; k = g .k; t = shaped .t-is i; east = shaped .east-is i; e = shaped .e-is i }
+
+module _ (s : List ℕ) (order : ℕ) (w : List ℕ) (zeros : (i : ℕ) → getD w i 0 ≡ 0) (w₁ : List ℕ) (r : HeadRead)
+    (told : headTold s w₁ r ≡ headIn (length s) (length w) order (record { line = 0; rest = s })) (answer : ℕ) (print : PrintRoom) where
+  abbrev lent : Lent
+  lent = lentBy (length w) order answer print
+
+  pub no-head : (f : Refusal) → r ≡ Unheaded f → read (lentBy (length w) order answer print) s ≡ refusedBy f
+  no-head f e = read-by lent s w₁ r told ∙ ap (λ (x : HeadRead). next (headTold s w₁ x) (restIn lent)) e
+
+  module _ (h : Head) (c : Cursor) (e : r ≡ headed h c) (holds : headHolds (length s) order w w₁ r) (long : length w₁ ≡ length w) where
+    pub head-holds : Holds (length s) order w w₁ h c
+    head-holds = subst (λ (x : HeadRead). headHolds (length s) order w w₁ x) e holds
+
+    pub short-text : length s ≤ 1048576
+    short-text =
+        text-fits (length s) (length w) order (record { line = 0; rest = s }) (placeOf s c) (headJob h w₁) (sym told ∙ ap (headTold s w₁) e)
+
+    -- the need is that of the places in the working numbers, and more
+    need-is : workingNeed (h .shape .w) (h .shape .h) (h .shape .k) ≡ demandAt (h .shape) + 2 * h .shape .e + 32 * h .shape .t
+    need-is =
+        let g = h .shape in
+        let u : 2 * g .k * g .e ≡ 2 * (g .k * g .e) = omega arith in
+        rw (sym (head-holds .shaped .t-is), sym (head-holds .shaped .e-is), u)
+
+    pub areas-fit : areasEnd (h .shape) ≤ length w₁
+    areas-fit = omega (arith, need-is, head-holds .working)
+
+    pub nets-may-start : (table : List ℕ) → tableSize ≤ length table → NetsReady (h .shape) w₁ table
+    nets-may-start table t = record {
+      room = omega (arith, areas-fit);
+      zeros = λ k a b. beyond-same (loadsAt (h .shape)) w₁ w k (head-holds .beyond) (omega arith) ∙ zeros k;
+      table-long = t;
+    }
+
+    read-on : read (lentBy (length w) order answer print) s ≡ restIn (lentBy (length w) order answer print) (headJob h w₁) (placeOf s c)
+    read-on = read-by lent s w₁ r told ∙ ap (λ (x : HeadRead). next (headTold s w₁ x) (restIn lent)) e
+
+    -- the rest after the head
+    module _ (w₂ table : List ℕ) where
+      pub rest-refused : (f : Refusal) → ((working order : ℕ) → restIn (lentBy working order answer print) (headJob h w₁) (placeOf s c) ≡ refusedBy f)
+          → read (lentBy (length w) order answer print) s ≡ refusedBy f
+      rest-refused f k = read-on ∙ k (length w) order
+
+      module _ (entries : ℕ) (found-rest : RestFound s h answer print (placeOf s c) w₁ w₂ table entries) where
+        abbrev ns : List Net
+        ns = found-rest .nets-read
+
+        abbrev job : Job
+        job = jobOf h w₁ (found-rest .nets-read)
+
+        abbrev so : SoRead s (h .shape) (found-rest .nets-read) entries w₁ w₂ table
+        so = found-rest .so-read
+
+        capacities-are : Capacities (h .shape) (jobOf h w₁ (found-rest .nets-read)) w₂
+        capacities-are = record {
+          caps = λ a l b x y.
+              so .low (a * h .shape .k + (l - 1)) (omega (arith, edge-room (h .shape) a b))
+              ∙ sym (capacity-in job (h .shape) w₁ refl a l b x y);
+        }
+
+        row-is : (i : ℕ) → i < netCount (jobOf h w₁ (found-rest .nets-read)) → Row s (jobOf h w₁ (found-rest .nets-read)) table i
+        row-is i b =
+            let z : i ≡ suc i - 1 = omega arith in
+            let k = subst (λ (m : ℕ). RowAt s (h .shape .w) (h .shape .h) (h .shape .k) table i (offset (edgesOf ns) i) (getD ns m noNet)) z (so .rows i b) in
+            record { pins = k .pins; edges = k .edges; pin-count = k .pin-count; edge-count = k .edge-count; first = k .first-is }
+
+        pub job-found : JobFound s (lentBy (length w) order answer print) w₂ table h entries
+        job-found = record {
+          job = job;
+          place = found-rest .place;
+          is = read-on ∙ found-rest .is (length w) order;
+          checked = record {
+            shape = shape-is (h .shape) (head-holds .shaped);
+            shaped = head-holds .shaped;
+            room = omega (arith, areas-fit, so .long);
+            capacities = capacities-are;
+            loads = λ i a b. so .low i b ∙ beyond-same (loadsAt (h .shape)) w₁ w i (head-holds .beyond) a ∙ zeros i;
+            demand = so .demands;
+            marks = so .marks;
+            rows = record { long = so .table-long; rows = row-is };
+          };
+          alpha = refl;
+          beta = refl;
+          gamma = refl;
+          nets = sym (found-rest .count);
+          entries-are = so .entries-are;
+        }
+
+    pub job-told : (w₂ table : List ℕ) (v : JobRead) → RestTold s h answer print (placeOf s c) w₁ w₂ table v → JobTold s (lentBy (length w) order answer print) w₂ table v
+    job-told w₂ table (Refused f) t = rest-refused w₂ table f t
+    job-told w₂ table (accepted k entries) t = subst (λ (x : Head). JobFound s lent w₂ table x entries) (sym (t .0)) (job-found w₂ table entries (t .1))

@@ -1,0 +1,100 @@
+-- The whole text: what the answer says in the definitions' words.
+-- Assumes nothing.
+use mathlib.Core.Bool.{_&&_}
+use mathlib.Core.List.{List}
+use mathlib.Core.Option.{Option, none, some}
+use mathlib.Core.Path.{_≡_, refl}
+use Prim.Native.Nat.{ℕ}
+use lib.Dec.{leb}
+use lib.ListN.{length}
+use Rattle.head.specs.Capacities.{capacitiesOf}
+use Rattle.head.specs.Reads.{restIn}
+use Rattle.head.specs.Told.{headJob}
+use Rattle.head.specs.declared.Head.{Head}
+use Rattle.lines.specs.Told.{refusedBy}
+use Rattle.model.specs.Job.{Net, Job, netCount, entryCount}
+use Rattle.model.specs.Read.{Place, Result, Reading, refused, found, next, _>>_, give, need, nets, Lent, printNeed, printFits, end, read}
+use Rattle.net.specs.Checked.{Checked}
+use Rattle.reader.specs.Nets.{SoRead}
+use Rattle.reader.specs.declared.PrintRoom.{PrintRoom}
+use Rattle.reader.specs.declared.PrintRoom.the-variants.{Absent, Bytes}
+use Rattle.reader.specs.declared.JobRead.{JobRead}
+use Rattle.reader.specs.declared.JobRead.the-variants.{Job as accepted, Refused}
+
+-- Plan borrows no print buffer
+abbrev pub printLent : PrintRoom → Option ℕ
+printLent Absent = none
+printLent (Bytes n) = some n
+
+-- what is lent, by its lengths
+abbrev pub lentBy : ℕ → ℕ → ℕ → PrintRoom → Lent
+lentBy working order answer print = record { working = working; order = order; answer = answer; print = printLent print }
+
+-- ---- after the nets
+
+-- the end of the text, and what N nets with A edges need: "11 after the whole text"
+unfoldable pub endIn : ℕ → ℕ → ℕ → Option ℕ → Reading (Unit {0})
+endIn N A answer print = do
+  end
+  need 11 (leb A answer && printFits (printNeed N A) print)
+
+-- the job of a head, its capacities in the working numbers w, and of its nets
+abbrev pub jobOf : Head → List ℕ → List Net → Job
+jobOf h w ns = record {
+  width = h .shape .w;
+  height = h .shape .h;
+  layers = h .shape .k;
+  alpha = h .alpha;
+  beta = h .beta;
+  gamma = h .gamma;
+  capacities = capacitiesOf (h .shape) w;
+  nets = ns;
+}
+
+-- the rest of the text is its nets and then its end
+pub rest-splits : (lent : Lent) (h : Head) (w : List ℕ) (p : Place) →
+    restIn lent (headJob h w) p
+    ≡ next (nets (h .shape .w) (h .shape .h) (h .shape .k) 1 (h .nets) p)
+    (λ ns q. next (endIn (h .nets) (entryCount (jobOf h w ns)) (lent .answer) (lent .print) q) (λ u. give (jobOf h w ns)))
+unfolding restIn endIn
+rest-splits lent h w p = go (nets (h .shape .w) (h .shape .h) (h .shape .k) 1 (h .nets) p)
+  where
+    ended : (e : Result (Unit {0})) (k : Reading (Unit {0})) (j : Job) → next e (λ u. _>>_ k (give j)) ≡ next (next e (λ u. k)) (λ u. give j)
+    ended (refused n l) k j = refl
+    ended (found u q) k j = refl
+
+    go : (r : Result (List Net)) →
+        next r (λ ns. _>>_ end (_>>_ (need 11 (leb (entryCount (jobOf h w ns)) (lent .answer) && printFits (printNeed (h .nets) (entryCount (jobOf h w ns))) (lent .print))) (give (jobOf h w ns))))
+        ≡ next r (λ ns q. next (next (end q) (λ u. need 11 (leb (entryCount (jobOf h w ns)) (lent .answer) && printFits (printNeed (h .nets) (entryCount (jobOf h w ns))) (lent .print)))) (λ u. give (jobOf h w ns)))
+    go (refused n l) = refl
+    go (found ns q) = ended (end q) (need 11 (leb (entryCount (jobOf h w ns)) (lent .answer) && printFits (printNeed (h .nets) (entryCount (jobOf h w ns))) (lent .print))) (jobOf h w ns)
+
+-- The nets behind the head h, whose capacities stand in w₀, and the end of the text. The other two lengths that are lent have no part in it.
+pub record RestFound (s : List ℕ) (h : Head) (answer : ℕ) (print : PrintRoom) (p : Place) (w₀ w table : List ℕ) (entries : ℕ) : Type 0 where
+  pub nets-read : List Net
+  pub place : Place
+  pub is : (working order : ℕ) → restIn (lentBy working order answer print) (headJob h w₀) p ≡ found (jobOf h w₀ nets-read) place
+  pub count : length nets-read ≡ h .nets
+  pub so-read : SoRead s (h .shape) nets-read entries w₀ w table
+
+abbrev pub RestTold : List ℕ → Head → ℕ → PrintRoom → Place → List ℕ → List ℕ → List ℕ → JobRead → Type 0
+RestTold s h answer print p w₀ w table (Refused r) = (working order : ℕ) → restIn (lentBy working order answer print) (headJob h w₀) p ≡ refusedBy r
+RestTold s h answer print p w₀ w table (accepted k entries) = (k ≡ h) × RestFound s h answer print p w₀ w table entries
+
+-- ---- the whole
+
+-- the job that the definitions read: its numbers, and what the working numbers and the net table hold of it
+pub record JobFound (s : List ℕ) (lent : Lent) (w table : List ℕ) (h : Head) (entries : ℕ) : Type 0 where
+  pub job : Job
+  pub place : Place
+  pub is : read lent s ≡ found job place
+  pub checked : Checked s (h .shape) job w table
+  pub alpha : h .alpha ≡ job .alpha
+  pub beta : h .beta ≡ job .beta
+  pub gamma : h .gamma ≡ job .gamma
+  pub nets : h .nets ≡ netCount job
+  pub entries-are : entries ≡ entryCount job
+
+abbrev pub JobTold : List ℕ → Lent → List ℕ → List ℕ → JobRead → Type 0
+JobTold s lent w table (Refused r) = read lent s ≡ refusedBy r
+JobTold s lent w table (accepted h entries) = JobFound s lent w table h entries

@@ -1,0 +1,279 @@
+// The whole job text read once: a job or its one refusal. An accepted job leaves its capacities and flat demand in the working numbers, and the net table
+// has where each net's lines stand.
+use edges::EdgesRead;
+use head::Head;
+use head::HeadRead;
+use layout::Shape;
+use lines::Field;
+use lines::Listed;
+use pins::PinsRead;
+use text::Cursor;
+use text::Fault;
+use text::Refusal;
+ghost use mathlib.Core.Path.{_≡_};
+ghost use Prim.Native.Nat.{ℕ, _+_, _*_, _<_, _≤_};
+ghost use lib.ListN.{length, drop, getD};
+ghost use Rattle.edges.specs.Reading.{tilesOf};
+ghost use Rattle.layout.specs.Areas.{tilesAt, chosenAt};
+ghost use Rattle.layout.specs.Parts.{Outside};
+ghost use Rattle.layout.specs.Shapes.{Shaped};
+ghost use Rattle.layout.specs.Table.{tableSize};
+ghost use Rattle.lines.specs.Told.{listIn};
+ghost use Rattle.marks.specs.Marks.{Older};
+ghost use Rattle.model.specs.Read.{netLine, pinsLine, netLines, nets, printNeed, printFits};
+ghost use Rattle.pins.specs.Pins.{NextIn, answered, mapped, pinsMarked};
+ghost use Rattle.text.specs.Refusals.{placeOf};
+ghost use Rattle.reader.specs.Rows.{rowPut};
+ghost use Rattle.reader.specs.Nets.{turnTold, bodyIn, NetReady, NetTold, NetsReady, NetsTold};
+ghost use Rattle.reader.specs.Whole.{printLent, lentBy, endIn, RestTold, JobTold};
+
+// The lines of a net: the place after them, and the entries of its `edges` line.
+pub enum NetRead {
+    Net(Cursor, usize),
+    Refused(Refusal),
+}
+
+// The lines of all nets: the place after them, and the entries of all `edges` lines.
+pub enum NetsRead {
+    Nets(Cursor, usize),
+    Refused(Refusal),
+}
+
+// The print buffer that is lent: its length, or none for Plan.
+pub enum PrintRoom {
+    Absent,
+    Bytes(usize),
+}
+
+// An accepted job: what its head says, and the entries of all its `edges` lines.
+pub enum JobRead {
+    Job(Head, usize),
+    Refused(Refusal),
+}
+
+// The line `net`: "1, 2, 3 and so on".
+fn net_line(s: &[u8], c: Cursor, turn: usize) -> Listed
+    requires { ⌜ (c .at ≤ length (now s)) × (c .line < 1048576) ⌝ }
+    ensures { λ r. ⌜ turnTold (now (s .entry)) r ≡ netLine turn (placeOf (now (s .entry)) c) ⌝ }
+    ensures { λ r. ⌜ listIn (length (now (s .entry))) (c .line + 1) r ⌝ }
+{
+    match lines::number_line(s, c, b"net=") {
+        Field::Refused(r) => Listed::Refused(r),
+        Field::Value(n, d) => {
+            if n != turn {
+                return Listed::Refused(Refusal::Line(Fault::Turn, d.line));
+            }
+            Listed::Next(d)
+        }
+    }
+}
+
+// The `pins` line, its pins marked by tile.
+fn net_pins(s: &[u8], at: usize, w: &mut [u32], g: Shape, stamp: u32) -> PinsRead
+    requires { ⌜ Shaped g ⌝ }
+    requires { ⌜ (chosenAt g ≤ length (now w)) × (stamp ≤ 8192) × (length (now s) ≤ 1048576) × (at ≤ length (now s)) ⌝ }
+    requires { ⌜ Older stamp (tilesOf g (now w)) ⌝ }
+    ensures { λ r. ⌜ ((n : ℕ) → answered (n + 1) (now (s .entry)) (tilesOf g (now (w .exit))) r ≡ mapped (pinsMarked stamp (tilesOf g (now (w .entry)))) (pinsLine (g .w) (g .h) (g .k) (record { line = n; rest = drop at (now (s .entry)) }))) ⌝ }
+    ensures { λ r. ⌜ NextIn (length (now (s .entry))) r ⌝ }
+    ensures { λ _. ⌜ Outside (tilesAt g) (g .t) (now (w .entry)) (now (w .exit)) ⌝ }
+{
+    let from = layout::tiles_at(g);
+    let to = layout::links_at(g);
+    pins::pins_line(s, at, &mut w[from..to], g, stamp)
+}
+
+// The row of net i, counted from 0, in the net table.
+fn put_row(
+    table: &mut [u32],
+    i: usize,
+    pins: usize,
+    edges: usize,
+    entries: usize,
+    first: usize,
+    count: usize,
+)
+    requires { ⌜ (i < 4096) × (tableSize ≤ length (now table)) ⌝ }
+    requires { ⌜ (pins ≤ 16777216) × (edges ≤ 16777216) × (entries ≤ 16777216) × (first ≤ 16777216) × (count ≤ 16777216) ⌝ }
+    ensures { λ _. ⌜ now (table .exit) ≡ rowPut (now (table .entry)) i pins edges entries first count ⌝ }
+{
+    table[layout::pins_column(i)] = pins as u32;
+    table[layout::edges_column(i)] = edges as u32;
+    table[layout::entries_column(i)] = entries as u32;
+    table[layout::first_column(i)] = first as u32;
+    table[layout::count_column(i)] = count as u32;
+}
+
+// The `pins` and `edges` lines of net i, counted from 0, behind its `net` line. Its layers go from `first` on in the answer list.
+fn net_body(
+    s: &[u8],
+    c: Cursor,
+    w: &mut [u32],
+    g: Shape,
+    table: &mut [u32],
+    i: usize,
+    first: usize,
+) -> NetRead
+    requires { ⌜ Shaped g ⌝ }
+    requires { ⌜ (c .at ≤ length (now s)) × (c .line < 100000) × (length (now s) ≤ 1048576) ⌝ }
+    requires { ⌜ (tableSize ≤ length (now table)) × (first ≤ 16777216) ⌝ }
+    requires { ⌜ NetReady g i (now w) ⌝ }
+    ensures { λ r. ⌜ NetTold (now (s .entry)) g i first (c .line + 2) (now (w .entry)) (now (w .exit)) (now (table .entry)) (now (table .exit)) (bodyIn (g .w) (g .h) (g .k) (placeOf (now (s .entry)) c)) r ⌝ }
+    ensures { λ _. ⌜ (length (now (w .exit)) ≡ length (now (w .entry))) × (length (now (table .exit)) ≡ length (now (table .entry))) ⌝ }
+{
+    let stamp = (i + 1) as u32;
+    match net_pins(s, c.at, w, g, stamp) {
+        PinsRead::Bad(f) => NetRead::Refused(Refusal::Line(f, c.line + 1)),
+        PinsRead::Line(next, entries, tiles) => {
+            match edges::edges_line(s, next, w, g, stamp, tiles) {
+                EdgesRead::Bad(f) => NetRead::Refused(Refusal::Line(f, c.line + 2)),
+                EdgesRead::Line(after, count) => {
+                    put_row(table, i, c.at + 5, next + 6, entries, first, count);
+                    NetRead::Net(
+                        Cursor {
+                            at: after,
+                            line: c.line + 2,
+                        },
+                        count,
+                    )
+                }
+            }
+        }
+    }
+}
+
+// The three lines of net i, counted from 0.
+fn read_net(
+    s: &[u8],
+    c: Cursor,
+    w: &mut [u32],
+    g: Shape,
+    table: &mut [u32],
+    i: usize,
+    first: usize,
+) -> NetRead
+    requires { ⌜ Shaped g ⌝ }
+    requires { ⌜ (c .at ≤ length (now s)) × (c .line < 90000) × (length (now s) ≤ 1048576) ⌝ }
+    requires { ⌜ (tableSize ≤ length (now table)) × (first ≤ 16777216) ⌝ }
+    requires { ⌜ NetReady g i (now w) ⌝ }
+    ensures { λ r. ⌜ NetTold (now (s .entry)) g i first (c .line + 3) (now (w .entry)) (now (w .exit)) (now (table .entry)) (now (table .exit)) (netLines (g .w) (g .h) (g .k) (i + 1) (placeOf (now (s .entry)) c)) r ⌝ }
+    ensures { λ _. ⌜ (length (now (w .exit)) ≡ length (now (w .entry))) × (length (now (table .exit)) ≡ length (now (table .entry))) ⌝ }
+{
+    match net_line(s, c, i + 1) {
+        Listed::Refused(r) => NetRead::Refused(r),
+        Listed::Next(d) => net_body(s, d, w, g, table, i, first),
+    }
+}
+
+// The lines of all n nets.
+fn read_nets(
+    s: &[u8],
+    from: Cursor,
+    w: &mut [u32],
+    g: Shape,
+    table: &mut [u32],
+    n: usize,
+) -> NetsRead
+    requires { ⌜ Shaped g ⌝ }
+    requires { ⌜ (from .at ≤ length (now s)) × (from .line < 1000) × (length (now s) ≤ 1048576) × (n ≤ 4096) ⌝ }
+    requires { ⌜ NetsReady g (now w) (now table) ⌝ }
+    ensures { λ r. ⌜ NetsTold (now (s .entry)) g n (from .line + 3 * n) (now (w .entry)) (now (w .exit)) (now (table .exit)) (nets (g .w) (g .h) (g .k) 1 n (placeOf (now (s .entry)) from)) r ⌝ }
+    ensures { λ _. ⌜ (length (now (w .exit)) ≡ length (now (w .entry))) × (length (now (table .exit)) ≡ length (now (table .entry))) ⌝ }
+{
+    let mut c = from;
+    let mut entries = 0;
+    let mut i = 0;
+    while i < n {
+        match read_net(s, c, w, g, table, i, entries) {
+            NetRead::Refused(r) => {
+                return NetsRead::Refused(r);
+            }
+            NetRead::Net(d, count) => {
+                c = d;
+                entries += count;
+            }
+        }
+        i += 1;
+    }
+    NetsRead::Nets(c, entries)
+}
+
+// Whether the print of n nets with so many edges fits: "256 + 64 × N + 2 × A bytes".
+fn print_fits(n: usize, entries: usize, print: PrintRoom) -> bool
+    requires { ⌜ (n ≤ 4096) × (entries ≤ 16777216) ⌝ }
+    ensures { λ r. ⌜ r ≡ printFits (printNeed n entries) (printLent print) ⌝ }
+{
+    match print {
+        PrintRoom::Absent => true,
+        PrintRoom::Bytes(m) => 256 + 64 * n + 2 * entries <= m,
+    }
+}
+
+// The end of the text, and whether what is lent is long enough.
+fn read_end(
+    s: &[u8],
+    c: Cursor,
+    n: usize,
+    entries: usize,
+    answer: usize,
+    print: PrintRoom,
+) -> Listed
+    requires { ⌜ (c .at ≤ length (now s)) × (c .line < 1048576) × (n ≤ 4096) × (entries ≤ 16777216) ⌝ }
+    ensures { λ r. ⌜ turnTold (now (s .entry)) r ≡ endIn n entries answer (printLent print) (placeOf (now (s .entry)) c) ⌝ }
+{
+    if c.at < s.len() {
+        return Listed::Refused(Refusal::Line(Fault::Form, c.line + 1));
+    }
+    if answer < entries {
+        return Listed::Refused(Refusal::Short(c.line));
+    }
+    if !print_fits(n, entries, print) {
+        return Listed::Refused(Refusal::Short(c.line));
+    }
+    Listed::Next(c)
+}
+
+// The nets behind the head, and the end of the text.
+fn read_rest(
+    s: &[u8],
+    h: Head,
+    c: Cursor,
+    w: &mut [u32],
+    table: &mut [u32],
+    answer: usize,
+    print: PrintRoom,
+) -> JobRead
+    requires { ⌜ Shaped (h .shape) ⌝ }
+    requires { ⌜ (c .at ≤ length (now s)) × (c .line < 1000) × (length (now s) ≤ 1048576) × (h .nets ≤ 4096) ⌝ }
+    requires { ⌜ NetsReady (h .shape) (now w) (now table) ⌝ }
+    ensures { λ r. ⌜ RestTold (now (s .entry)) h answer print (placeOf (now (s .entry)) c) (now (w .entry)) (now (w .exit)) (now (table .exit)) r ⌝ }
+    ensures { λ _. ⌜ (length (now (w .exit)) ≡ length (now (w .entry))) × (length (now (table .exit)) ≡ length (now (table .entry))) ⌝ }
+{
+    match read_nets(s, c, w, h.shape, table, h.nets) {
+        NetsRead::Refused(r) => JobRead::Refused(r),
+        NetsRead::Nets(d, entries) => match read_end(s, d, h.nets, entries, answer, print) {
+            Listed::Refused(r) => JobRead::Refused(r),
+            Listed::Next(_) => JobRead::Job(h, entries),
+        },
+    }
+}
+
+// The whole text s. The working numbers w are zero before; `order`, `answer` and `print` are the lengths of what else is lent. After a refusal the working
+// numbers and the net table may hold anything.
+pub fn read_job(
+    s: &[u8],
+    w: &mut [u32],
+    table: &mut [u32],
+    order: usize,
+    answer: usize,
+    print: PrintRoom,
+) -> JobRead
+    requires { ⌜ ((i : ℕ) → getD (now w) i 0 ≡ 0) ⌝ }
+    requires { ⌜ tableSize ≤ length (now table) ⌝ }
+    ensures { λ r. ⌜ JobTold (now (s .entry)) (lentBy (length (now (w .entry))) order answer print) (now (w .exit)) (now (table .exit)) r ⌝ }
+    ensures { λ _. ⌜ (length (now (w .exit)) ≡ length (now (w .entry))) × (length (now (table .exit)) ≡ length (now (table .entry))) ⌝ }
+{
+    match head::read_head(s, w, order) {
+        HeadRead::Refused(r) => JobRead::Refused(r),
+        HeadRead::Head(h, c) => read_rest(s, h, c, w, table, answer, print),
+    }
+}
