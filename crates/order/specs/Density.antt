@@ -1,0 +1,32 @@
+-- D and C of a net: the sums of d(e) and c(e) over its edges, from the working numbers.
+-- Assumes nothing.
+use mathlib.Core.List.{List}
+use mathlib.Core.Path.{_≡_}
+use Prim.Native.Nat.{ℕ, _+_, _^_, _≤_}
+use lib.ListN.{getD}
+use Rattle.layout.specs.Areas.{demandAt, flatAt}
+use Rattle.layout.specs.declared.Shape.{Shape}
+use Rattle.model.specs.Job.{Net, Job}
+use Rattle.model.specs.Lists.{sum}
+use Rattle.model.specs.Overflow.{flatDemand, flatCapacity}
+use Rattle.score.specs.declared.Density.{Density}
+
+-- d(e) and c(e) as they stand in the working numbers
+abbrev pub demandIn : Shape → List ℕ → ℕ → ℕ
+demandIn g w e = getD w (demandAt g + e) 0
+
+abbrev pub capacityIn : Shape → List ℕ → ℕ → ℕ
+capacityIn g w e = getD w (flatAt g + e) 0
+
+-- r is v with edge e added
+pub record Added (g : Shape) (w : List ℕ) (e : ℕ) (v r : Density) : Type 0 where
+  pub demand : r .demand ≡ v .demand + demandIn g w e
+  pub capacity : r .capacity ≡ v .capacity + capacityIn g w e
+  -- each is a number of 32 bits
+  pub demand-most : demandIn g w e ≤ 2 ^ 32
+  pub capacity-most : capacityIn g w e ≤ 2 ^ 32
+
+-- r is D and C of a net of the job
+pub record DensityOf (j : Job) (n : Net) (r : Density) : Type 0 where
+  pub demand : r .demand ≡ sum (flatDemand j) (n .edges)
+  pub capacity : r .capacity ≡ sum (flatCapacity j) (n .edges)

@@ -1,0 +1,103 @@
+// The scores of all nets of an accepted job, and the order list in placing order.
+use layout::Shape;
+use score::Density;
+use text::Entry;
+ghost use mathlib.Core.Bool.{true};
+ghost use mathlib.Core.Path.{_≡_};
+ghost use Prim.Native.Nat.{ℕ, _^_, _<_, _≤_};
+ghost use lib.ListN.{length, getD};
+ghost use Rattle.layout.specs.Areas.{tilesAt};
+ghost use Rattle.layout.specs.Shapes.{Shaped};
+ghost use Rattle.model.specs.Job.{Net, Job};
+ghost use Rattle.model.specs.Read.{edgeInside};
+ghost use Rattle.net.specs.Left.{EdgesThere};
+ghost use Rattle.net.specs.Table.{EdgesAt};
+ghost use Rattle.scan.specs.Pins.{triple};
+ghost use Rattle.tracks.specs.FlatPlan.{FlatDemands, FlatCapacities};
+ghost use Rattle.ways.specs.Entry.{edgeOf};
+ghost use Rattle.order.specs.Density.{Added, DensityOf};
+
+// The number of the edge that an entry inside the grid names.
+fn edge_of(g: Shape, x: usize, y: usize, d: usize) -> usize
+    requires { ⌜ Shaped g ⌝ }
+    requires { ⌜ (d ≤ 1) × (edgeInside (g .w) (g .h) (triple x y d) ≡ true) ⌝ }
+    ensures { λ r. ⌜ (r ≡ edgeOf g (triple x y d)) × (r < g .e) ⌝ }
+{
+    let here = pins::tile_at(g, x, y);
+    let way = layout::way_out(g, here, d);
+    way.edge
+}
+
+fn wide(x: u32) -> u64
+    ensures { λ r. ⌜ (r ≡ x) × (r < 2 ^ 32) ⌝ }
+{
+    x as u64
+}
+
+// d(e) and c(e) of one edge more.
+fn add_edge(w: &[u32], g: Shape, v: Density, edge: usize) -> Density
+    requires { ⌜ Shaped g ⌝ }
+    requires { ⌜ (tilesAt g ≤ length (now w)) × (edge < g .e) × (v .demand ≤ 2 ^ 60) × (v .capacity ≤ 2 ^ 60) ⌝ }
+    ensures { λ r. ⌜ Added g (now (w .entry)) edge v r ⌝ }
+{
+    let demand = wide(w[layout::demand_at(g) + edge]);
+    let capacity = wide(w[layout::flat_at(g) + edge]);
+    Density {
+        demand: v.demand + demand,
+        capacity: v.capacity + capacity,
+    }
+}
+
+// d(e) and c(e) of the edge that an entry inside the grid names.
+fn add_entry(w: &[u32], g: Shape, v: Density, x: usize, y: usize, d: usize) -> Density
+    requires { ⌜ Shaped g ⌝ }
+    requires { ⌜ (tilesAt g ≤ length (now w)) × (v .demand ≤ 2 ^ 60) × (v .capacity ≤ 2 ^ 60) × (d ≤ 1) × (edgeInside (g .w) (g .h) (triple x y d) ≡ true) ⌝ }
+    ensures { λ r. ⌜ Added g (now (w .entry)) (edgeOf g (triple x y d)) v r ⌝ }
+{
+    let edge = edge_of(g, x, y, d);
+    add_edge(w, g, v, edge)
+}
+
+// D and C over the edges whose entries stand at `at`, one or more.
+fn entries_density(s: &[u8], at: usize, w: &[u32], g: Shape) -> Density
+    requires { ⌜ Shaped g ⌝ }
+    requires { ⌜ tilesAt g ≤ length (now w) ⌝ }
+    requires { ⌜ EdgesThere (now s) g at × (getD (now s) at 0 ≡ 10 → ⊥) ⌝ }
+    ensures { λ r. ⌜ ((j : Job) (n : Net) → EdgesAt (now (s .entry)) (g .w) (g .h) at n → FlatDemands g j (now (w .entry)) → FlatCapacities g j (now (w .entry)) → DensityOf j n r) ⌝ }
+{
+    let mut i = at;
+    let mut v = Density {
+        demand: 0,
+        capacity: 0,
+    };
+    loop {
+        match text::edge_at(s, i) {
+            Entry::Bad => {
+                return v;
+            }
+            Entry::Last(x, y, d, _) => {
+                return add_entry(w, g, v, x, y, d);
+            }
+            Entry::More(x, y, d, next) => {
+                v = add_entry(w, g, v, x, y, d);
+                i = next;
+            }
+        }
+    }
+}
+
+// D and C over the edges of the line at `at`, which may be empty.
+fn density(s: &[u8], at: usize, w: &[u32], g: Shape) -> Density
+    requires { ⌜ Shaped g ⌝ }
+    requires { ⌜ tilesAt g ≤ length (now w) ⌝ }
+    requires { ⌜ EdgesThere (now s) g at ⌝ }
+    ensures { λ r. ⌜ ((j : Job) (n : Net) → EdgesAt (now (s .entry)) (g .w) (g .h) at n → FlatDemands g j (now (w .entry)) → FlatCapacities g j (now (w .entry)) → DensityOf j n r) ⌝ }
+{
+    if s[at] == 10 {
+        return Density {
+            demand: 0,
+            capacity: 0,
+        };
+    }
+    entries_density(s, at, w, g)
+}
