@@ -1,1 +1,2 @@
 pub mod Density
+pub mod Ready

@@ -4,18 +4,28 @@ use score::Density;
 use text::Entry;
 ghost use mathlib.Core.Bool.{true};
 ghost use mathlib.Core.Path.{_≡_};
-ghost use Prim.Native.Nat.{ℕ, _^_, _<_, _≤_};
+ghost use Prim.Native.Nat.{ℕ, suc, _^_, _<_, _≤_};
 ghost use lib.ListN.{length, getD};
 ghost use Rattle.layout.specs.Areas.{tilesAt};
 ghost use Rattle.layout.specs.Shapes.{Shaped};
-ghost use Rattle.model.specs.Job.{Net, Job};
-ghost use Rattle.model.specs.Read.{edgeInside};
+ghost use Rattle.model.specs.Job.{Net, Job, netCount, netOf};
+ghost use Rattle.model.specs.Read.{Lent, edgeInside};
+ghost use Rattle.model.specs.Score as scores;
 ghost use Rattle.net.specs.Left.{EdgesThere};
 ghost use Rattle.net.specs.Table.{EdgesAt};
 ghost use Rattle.scan.specs.Pins.{triple};
 ghost use Rattle.tracks.specs.FlatPlan.{FlatDemands, FlatCapacities};
 ghost use Rattle.ways.specs.Entry.{edgeOf};
+ghost use Rattle.sort.specs.Keys.{keyOf};
 ghost use Rattle.order.specs.Density.{Added, DensityOf};
+ghost use Rattle.order.specs.Ready.{Ready, SomeNet};
+
+// alpha, beta and gamma of a job.
+pub struct Weights {
+    pub alpha: u64,
+    pub beta: u64,
+    pub gamma: u64,
+}
 
 // The number of the edge that an entry inside the grid names.
 fn edge_of(g: Shape, x: usize, y: usize, d: usize) -> usize
@@ -100,4 +110,35 @@ fn density(s: &[u8], at: usize, w: &[u32], g: Shape) -> Density
         };
     }
     entries_density(s, at, w, g)
+}
+
+fn index(x: u32) -> usize
+    ensures { λ r. ⌜ r ≡ x ⌝ }
+{
+    x as usize
+}
+
+// The score of net i, counted from 0.
+fn net_score(s: &[u8], w: &[u32], g: Shape, a: Weights, table: &[u32], i: usize) -> u64
+    requires { ⌜ Shaped g ⌝ }
+    requires { ⌜ tilesAt g ≤ length (now w) ⌝ }
+    requires { ⌜ SomeNet (now s) g a (now w) (now table) i ⌝ }
+    ensures { λ r. ⌜ ((lent : Lent) (j : Job) → Ready (now (s .entry)) g a (now (w .entry)) (now (table .entry)) lent j → i < netCount j → r ≡ scores.score j (netOf j (suc i))) ⌝ }
+{
+    let at = index(table[layout::edges_column(i)]);
+    let edges = wide(table[layout::count_column(i)]);
+    let pins = wide(table[layout::entries_column(i)]);
+    let x = density(s, at, w, g);
+    score::score(a.alpha, a.beta, a.gamma, edges, pins, x)
+}
+
+// The key of net i, counted from 0.
+fn net_key(s: &[u8], w: &[u32], g: Shape, a: Weights, table: &[u32], i: usize) -> u64
+    requires { ⌜ Shaped g ⌝ }
+    requires { ⌜ tilesAt g ≤ length (now w) ⌝ }
+    requires { ⌜ SomeNet (now s) g a (now w) (now table) i ⌝ }
+    ensures { λ r. ⌜ ((lent : Lent) (j : Job) → Ready (now (s .entry)) g a (now (w .entry)) (now (table .entry)) lent j → i < netCount j → r ≡ keyOf (scores.score j (netOf j (suc i))) i) ⌝ }
+{
+    let v = net_score(s, w, g, a, table, i);
+    sort::key_of(v, i)
 }

@@ -1,0 +1,40 @@
+-- What must stand where the nets of an accepted job are put in placing order.
+-- Assumes nothing.
+use mathlib.Core.List.{List}
+use mathlib.Core.Path.{_≡_}
+use Prim.Native.Nat.{ℕ, _<_}
+use Rattle.layout.specs.declared.Shape.{Shape}
+use Rattle.model.specs.Job.{Job, netCount}
+use Rattle.model.specs.Read.{Lent}
+use Rattle.net.specs.Table.{Table}
+use Rattle.theory.specs.links.Reading.{Accepted}
+use Rattle.tracks.specs.FlatPlan.{FlatDemands, FlatCapacities}
+use Rattle.order.specs.declared.Weights.{Weights}
+
+-- job j is accepted; the text s, the shape, the weights, the working numbers and the net table are its own
+pub record Ready (s : List ℕ) (g : Shape) (a : Weights) (w table : List ℕ) (lent : Lent) (j : Job) : Type 0 where
+  pub accepted : Accepted lent j
+  pub width : g .w ≡ j .width
+  pub height : g .h ≡ j .height
+  pub layers : g .k ≡ j .layers
+  pub alpha : a .alpha ≡ j .alpha
+  pub beta : a .beta ≡ j .beta
+  pub gamma : a .gamma ≡ j .gamma
+  -- d(e) and c(e) of the flat plan
+  pub demands : FlatDemands g j w
+  pub capacities : FlatCapacities g j w
+  pub rows : Table s j table
+
+-- so it is with some job, of n nets
+pub record SomeJob (s : List ℕ) (g : Shape) (a : Weights) (w table : List ℕ) (n : ℕ) : Type 0 where
+  pub lent : Lent
+  pub job : Job
+  pub ready : Ready s g a w table lent job
+  pub count : n ≡ netCount job
+
+-- so it is with some job that has a net in place i, from 0
+pub record SomeNet (s : List ℕ) (g : Shape) (a : Weights) (w table : List ℕ) (i : ℕ) : Type 0 where
+  pub lent : Lent
+  pub job : Job
+  pub ready : Ready s g a w table lent job
+  pub there : i < netCount job
