@@ -1,2 +1,3 @@
 pub mod Density
 pub mod Ready
+pub mod Ordered

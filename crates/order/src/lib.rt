@@ -3,11 +3,13 @@ use layout::Shape;
 use score::Density;
 use text::Entry;
 ghost use mathlib.Core.Bool.{true};
+ghost use mathlib.Core.List.{map};
 ghost use mathlib.Core.Path.{_≡_};
 ghost use Prim.Native.Nat.{ℕ, suc, _^_, _<_, _≤_};
-ghost use lib.ListN.{length, getD};
+ghost use lib.ListN.{length, getD, take};
 ghost use Rattle.layout.specs.Areas.{tilesAt};
 ghost use Rattle.layout.specs.Shapes.{Shaped};
+ghost use Rattle.model.specs.Calls.{overwrite};
 ghost use Rattle.model.specs.Job.{Net, Job, netCount, netOf};
 ghost use Rattle.model.specs.Read.{Lent, edgeInside};
 ghost use Rattle.model.specs.Score as scores;
@@ -16,9 +18,11 @@ ghost use Rattle.net.specs.Table.{EdgesAt};
 ghost use Rattle.scan.specs.Pins.{triple};
 ghost use Rattle.tracks.specs.FlatPlan.{FlatDemands, FlatCapacities};
 ghost use Rattle.ways.specs.Entry.{edgeOf};
-ghost use Rattle.sort.specs.Keys.{keyOf};
+ghost use Rattle.sort.specs.Keys.{keyOf, keyScore, keyNet};
+ghost use Rattle.sort.specs.Placing.{keysOf};
 ghost use Rattle.order.specs.Density.{Added, DensityOf};
-ghost use Rattle.order.specs.Ready.{Ready, SomeNet};
+ghost use Rattle.order.specs.Ordered.{Ordered};
+ghost use Rattle.order.specs.Ready.{Ready, SomeJob, SomeNet};
 
 // alpha, beta and gamma of a job.
 pub struct Weights {
@@ -141,4 +145,51 @@ fn net_key(s: &[u8], w: &[u32], g: Shape, a: Weights, table: &[u32], i: usize) -
 {
     let v = net_score(s, w, g, a, table, i);
     sort::key_of(v, i)
+}
+
+// The keys of the n nets, in job order.
+fn fill_keys(s: &[u8], w: &[u32], g: Shape, a: Weights, table: &[u32], keys: &mut [u64], n: usize)
+    requires { ⌜ Shaped g ⌝ }
+    requires { ⌜ (tilesAt g ≤ length (now w)) × (n ≤ length (now keys)) ⌝ }
+    requires { ⌜ SomeJob (now s) g a (now w) (now table) n ⌝ }
+    ensures { λ _. ⌜ ((lent : Lent) (j : Job) → Ready (now (s .entry)) g a (now (w .entry)) (now (table .entry)) lent j → n ≡ netCount j → now (keys .exit) ≡ overwrite (keysOf j) (now (keys .entry))) ⌝ }
+{
+    for i in 0..n {
+        let key = net_key(s, w, g, a, table, i);
+        keys[i] = key;
+    }
+}
+
+// Of the n keys in `scores`, the net numbers and the scores that they hold.
+fn unpack(nets: &mut [u32], scores: &mut [u64], n: usize)
+    requires { ⌜ (n ≤ length (now nets)) × (n ≤ length (now scores)) ⌝ }
+    ensures { λ _. ⌜ now (nets .exit) ≡ overwrite (map keyNet (take n (now (scores .entry)))) (now (nets .entry)) ⌝ }
+    ensures { λ _. ⌜ now (scores .exit) ≡ overwrite (map keyScore (take n (now (scores .entry)))) (now (scores .entry)) ⌝ }
+{
+    for i in 0..n {
+        let key = scores[i];
+        nets[i] = sort::net_of(key);
+        scores[i] = sort::score_of(key);
+    }
+}
+
+// The order list of a job of n nets: the net numbers and the scores in placing order. The keys are made and sorted in `scores`.
+pub fn place_order(
+    s: &[u8],
+    w: &[u32],
+    g: Shape,
+    a: Weights,
+    table: &[u32],
+    nets: &mut [u32],
+    scores: &mut [u64],
+    n: usize,
+)
+    requires { ⌜ Shaped g ⌝ }
+    requires { ⌜ (tilesAt g ≤ length (now w)) × (n ≤ length (now nets)) × (n ≤ length (now scores)) ⌝ }
+    requires { ⌜ SomeJob (now s) g a (now w) (now table) n ⌝ }
+    ensures { λ _. ⌜ ((lent : Lent) (j : Job) → Ready (now (s .entry)) g a (now (w .entry)) (now (table .entry)) lent j → n ≡ netCount j → Ordered j (now (nets .entry)) (now (nets .exit)) (now (scores .entry)) (now (scores .exit))) ⌝ }
+{
+    fill_keys(s, w, g, a, table, scores, n);
+    sort::sort(scores, n);
+    unpack(nets, scores, n);
 }
