@@ -166,10 +166,12 @@ fn unpack(nets: &mut [u32], scores: &mut [u64], n: usize)
     ensures { λ _. ⌜ now (nets .exit) ≡ overwrite (map keyNet (take n (now (scores .entry)))) (now (nets .entry)) ⌝ }
     ensures { λ _. ⌜ now (scores .exit) ≡ overwrite (map keyScore (take n (now (scores .entry)))) (now (scores .entry)) ⌝ }
 {
-    for i in 0..n {
-        let key = scores[i];
-        nets[i] = sort::net_of(key);
-        scores[i] = sort::score_of(key);
+    for k in 0..n {
+        let key = scores[k];
+        let net = sort::net_of(key);
+        let score = sort::score_of(key);
+        nets[k] = net;
+        scores[k] = score;
     }
 }
 

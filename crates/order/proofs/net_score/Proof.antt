@@ -2,6 +2,7 @@
 -- Assumes nothing.
 use mathlib.Core.Path.{_≡_, ap, _∙_}
 use Prim.Native.Nat.{ℕ, suc}
+use native.Mathlib.Omega.{arith}
 use borrow.Author.Needs.{needs}
 use lib.ListN.{getD}
 use Rattle.layout.specs.Table.{edgesColumn, entriesColumn, countColumn}
@@ -53,9 +54,9 @@ score-requires c κs =
     let x = s b .args in
     let o = some b in
     let a = weights-small (x .s .now) (x .g) (x .a) (x .w .now) (x .table .now) (o .lent) (o .job) (o .ready) (x .i) (o .there) in (
-      a .0,
-      a .1,
-      a .2,
+      omega (arith, a),
+      omega (arith, a),
+      omega (arith, a),
       pins-small (x .s .now) (x .g) (x .a) (x .w .now) (x .table .now) (o .lent) (o .job) (o .ready) (x .i) (o .there) (pins b) (pins-is b),
       demand-small (x .s .now) (x .g) (x .a) (x .w .now) (x .table .now) (o .lent) (o .job) (o .ready) (x .i) (o .there) (c .density .result)
           (c .density .ensures (o .job) (netOf (o .job) (suc (x .i)))
