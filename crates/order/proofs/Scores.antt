@@ -1,8 +1,8 @@
 -- The score of a net of an accepted job, from its row of the net table.
 -- Assumes nothing.
 use mathlib.Core.List.{List}
-use mathlib.Core.Path.{_≡_, refl, sym, ap, _∙_}
-use Prim.Native.Nat.{ℕ, suc, _+_, _*_, _^_, _≤_, _<_}
+use mathlib.Core.Path.{_≡_, _∙_}
+use Prim.Native.Nat.{ℕ, suc, _+_, _^_, _≤_, _<_}
 use native.Mathlib.Nat.{mul-le-mul}
 use native.Mathlib.Omega.{arith}
 use lib.ListN.{length, getD}
@@ -10,7 +10,6 @@ use Rattle.layout.specs.Shapes.{Shaped}
 use Rattle.layout.specs.Table.{edgesColumn, entriesColumn, countColumn}
 use Rattle.layout.specs.declared.Shape.{Shape}
 use Rattle.model.specs.Job.{Net, Job, netCount, netOf}
-use Rattle.model.specs.Limits.{mostNets}
 use Rattle.model.specs.Read.{Lent}
 use Rattle.model.specs.Score.{lengthTerm, pinTerm, densityTerm, score}
 use Rattle.net.specs.Left.{EdgesThere, edges-there}
@@ -23,7 +22,7 @@ use Rattle.theory.specs.links.Nets.{NetOk}
 use Rattle.theory.specs.links.Planned.{net-ok}
 use Rattle.theory.specs.links.Scores.{tiles-few, pins-few}
 use Rattle.order.specs.Density.{DensityOf}
-use Rattle.order.specs.Ready.{Ready, SomeNet}
+use Rattle.order.specs.Ready.{Ready}
 use Rattle.order.specs.declared.Weights.{Weights}
 
 module _ (s : List ℕ) (g : Shape) (a : Weights) (w table : List ℕ) (lent : Lent) (j : Job) (ready : Ready s g a w table lent j) (i : ℕ) (h : i < netCount j) where

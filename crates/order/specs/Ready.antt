@@ -1,11 +1,15 @@
 -- What must stand where the nets of an accepted job are put in placing order.
 -- Assumes nothing.
 use mathlib.Core.List.{List}
-use mathlib.Core.Path.{_≡_}
-use Prim.Native.Nat.{ℕ, _<_}
+use mathlib.Core.Path.{_≡_, ap, _∙_}
+use Prim.Native.Nat.{ℕ, _+_, _<_}
+use native.Mathlib.Omega.{arith}
+use Rattle.layout.specs.Areas.{demandAt, flatAt}
+use Rattle.layout.specs.Parts.{Outside}
 use Rattle.layout.specs.declared.Shape.{Shape}
 use Rattle.model.specs.Job.{Job, netCount}
 use Rattle.model.specs.Read.{Lent}
+use Rattle.net.specs.Checked.{Checked}
 use Rattle.net.specs.Table.{Table}
 use Rattle.theory.specs.links.Reading.{Accepted}
 use Rattle.tracks.specs.FlatPlan.{FlatDemands, FlatCapacities}
@@ -38,3 +42,19 @@ pub record SomeNet (s : List ℕ) (g : Shape) (a : Weights) (w table : List ℕ)
   pub job : Job
   pub ready : Ready s g a w table lent job
   pub there : i < netCount job
+
+-- so it is with a job whose text is checked, once its flat capacities are in their place
+pub ready-checked : (s : List ℕ) (g : Shape) (a : Weights) (w w′ table : List ℕ) (lent : Lent) (j : Job) → Accepted lent j → Checked s g j w table
+    → Outside (flatAt g) (g .e) w w′ → FlatCapacities g j w′ → a .alpha ≡ j .alpha → a .beta ≡ j .beta → a .gamma ≡ j .gamma → Ready s g a w′ table lent j
+ready-checked s g a w w′ table lent j acc checked out flat alpha-is beta-is gamma-is = record {
+  accepted = acc;
+  width = ap (λ (h : Shape). h .w) (checked .shape);
+  height = ap (λ (h : Shape). h .h) (checked .shape);
+  layers = ap (λ (h : Shape). h .k) (checked .shape);
+  alpha = alpha-is;
+  beta = beta-is;
+  gamma = gamma-is;
+  demands = λ e b. out .low (demandAt g + e) (omega arith) ∙ checked .demand e b;
+  capacities = flat;
+  rows = checked .rows;
+}

@@ -1,7 +1,6 @@
 -- `unpack` meets its contract. The loop's invariant: the first k keys are unpacked, and the rest is as it was.
 -- Assumes nothing.
 use Prim.Native.Nat.{_-_}
-use native.Mathlib.Omega.{arith}
 use borrow.Author.Needs.{needs}
 use Rattle.order.proofs.Unpacking.{Unpacking, unpacking-none, unpacking-next, unpacking-done}
 use Rattle.order.proofs.unpack.Statement.{statement}
