@@ -1,0 +1,136 @@
+-- A net's turn: what is asked before it, what stands in the working numbers between its steps, and what it leaves.
+-- Assumes nothing.
+use mathlib.Core.List.{List, _∷_}
+use mathlib.Core.Path.{_≡_}
+use Prim.Native.Nat.{ℕ, suc, _+_, _-_, _≤_, _<_}
+use lib.ListN.{length, getD, set}
+use Rattle.layout.specs.Areas.{listAt, aboveAt, engineAt}
+use Rattle.layout.specs.declared.Shape.{Shape}
+use Rattle.marks.specs.Marks.{Older}
+use Rattle.marks.specs.Words.{bitOf}
+use Rattle.model.specs.Job.{Net, Job, netOf}
+use Rattle.model.specs.Lists.{has}
+use Rattle.model.specs.Overflow.{limit}
+use Rattle.model.specs.Plan.{best, bestInWalk}
+use Rattle.model.specs.Read.{Lent}
+use Rattle.model.specs.Score.{Entry}
+use Rattle.model.specs.Vias.{vias}
+use Rattle.model.specs.Walk.{walk}
+use Rattle.net.specs.AtHand.{tilesOf}
+use Rattle.net.specs.SoFar.{SoFar}
+use Rattle.net.specs.Table.{PinsAt, EdgesAt}
+use Rattle.theory.specs.links.Engine.{firstAt, pinsAt}
+use Rattle.theory.specs.links.Planned.{Midway}
+use Rattle.theory.specs.links.Reading.{Accepted}
+use Rattle.tracks.specs.OccupiedAll.{edgesOf, layersIn}
+
+-- the net whose turn it is, of an accepted job, with the plan of the nets before it
+pub record Turn : Type 0 where
+  pub lent : Lent
+  pub job : Job
+  pub accepted : Accepted lent job
+  pub entry : Entry
+  pub rest : List Entry
+  pub plan : List (List ℕ)
+  pub midway : Midway lent job accepted (entry ∷ rest) plan
+
+abbrev pub turnNet : Turn → Net
+turnNet u = netOf (u .job) (u .entry .net)
+
+-- the layers that it gets, and the plan with them
+abbrev pub turnLayers : Turn → List ℕ
+turnLayers u = best (u .job) (u .plan) (turnNet u)
+
+abbrev pub turnPlan : Turn → List (List ℕ)
+turnPlan u = set (u .plan) (u .entry .net - 1) (turnLayers u)
+
+-- the same in walk order
+abbrev pub turnWalk : Turn → List ℕ
+turnWalk u = walk (u .job) (turnNet u)
+
+abbrev pub walkLayers : Turn → List ℕ
+walkLayers u = bestInWalk (u .job) (u .plan) (turnNet u) (turnWalk u)
+
+-- the grid and the stack are those of the job
+pub record OfJob (g : Shape) (j : Job) : Type 0 where
+  pub width : g .w ≡ j .width
+  pub height : g .h ≡ j .height
+  pub layers : g .k ≡ j .layers
+
+-- ---- before the turn
+
+-- the net's lines stand at p and q of the text, the working numbers hold the plan so far, and every mark has an earlier stamp
+pub record Before (s : List ℕ) (p q : ℕ) (g : Shape) (stamp : ℕ) (w : List ℕ) (u : Turn) : Type 0 where
+  pub grid : OfJob g (u .job)
+  pub so-far : SoFar g (u .job) (u .plan) w
+  pub older : Older stamp (tilesOf g w)
+  pub pins : PinsAt s (u .job .width) (u .job .height) (u .job .layers) p (turnNet u)
+  pub edges : EdgesAt s (u .job .width) (u .job .height) q (turnNet u)
+
+pub record BeforeSome (s : List ℕ) (p q : ℕ) (g : Shape) (stamp : ℕ) (w : List ℕ) : Type 0 where
+  pub turn : Turn
+  pub before : Before s p q g stamp w turn
+
+-- the same, with MO/K rounded up as the limit m, and a stretch of c numbers for the net's layers
+pub record TurnAt (s : List ℕ) (p q : ℕ) (g : Shape) (stamp m : ℕ) (w : List ℕ) (c : ℕ) (u : Turn) : Type 0 where
+  pub before : Before s p q g stamp w u
+  pub limit-is : m ≡ limit (u .job)
+  pub count : c ≡ length (turnNet u .edges)
+
+pub record TurnSome (s : List ℕ) (p q : ℕ) (g : Shape) (stamp m : ℕ) (w : List ℕ) (c : ℕ) : Type 0 where
+  pub turn : Turn
+  pub at : TurnAt s p q g stamp m w c turn
+
+-- ---- between its steps
+
+-- The net is read and walked, with n tiles: by place the edge above it, the end of its branches and its pins, and its edges listed as its line has
+-- them. The plan so far is as it was, and every mark is older than the next stamp.
+pub record NetWalked (g : Shape) (stamp n : ℕ) (w : List ℕ) (u : Turn) : Type 0 where
+  pub grid : OfJob g (u .job)
+  pub tiles : n ≡ suc (length (turnNet u .edges))
+  pub list : (i : ℕ) → i < length (turnNet u .edges) → getD w (listAt g + i) 0 ≡ getD (turnNet u .edges) i 0
+  pub above : (i : ℕ) → i < length (turnNet u .edges) → getD w (aboveAt g + suc i) 0 ≡ getD (turnWalk u) i 0
+  pub ends : (i : ℕ) → i ≤ length (turnNet u .edges) → getD w (engineAt g + i) 0 ≡ firstAt (u .job) (turnNet u) (suc i)
+  pub pins-small : (i : ℕ) → i ≤ length (turnNet u .edges) → getD w (engineAt g + g .t + i) 0 < 256
+  pub pins : (i : ℕ) → i ≤ length (turnNet u .edges) → (l : ℕ) → 1 ≤ l → l ≤ 8
+      → bitOf (getD w (engineAt g + g .t + i) 0) (l - 1) ≡ has (pinsAt (u .job) (turnNet u) i) l
+  pub so-far : SoFar g (u .job) (u .plan) w
+  pub older : Older (suc stamp) (tilesOf g w)
+
+pub record WalkedSome (g : Shape) (n m : ℕ) (w : List ℕ) : Type 0 where
+  pub turn : Turn
+  pub stamp : ℕ
+  pub walked : NetWalked g stamp n w turn
+  pub limit-is : m ≡ limit (turn .job)
+
+-- the layers are chosen, by walk place
+pub record NetChosen (g : Shape) (stamp n : ℕ) (w : List ℕ) (u : Turn) : Type 0 where
+  pub grid : OfJob g (u .job)
+  pub tiles : n ≡ suc (length (turnNet u .edges))
+  pub list : (i : ℕ) → i < length (turnNet u .edges) → getD w (listAt g + i) 0 ≡ getD (turnNet u .edges) i 0
+  pub edges : edgesOf g n w ≡ turnWalk u
+  pub layers : layersIn g n w ≡ walkLayers u
+  pub so-far : SoFar g (u .job) (u .plan) w
+  pub older : Older (suc stamp) (tilesOf g w)
+
+pub record ChosenSome (g : Shape) (n c : ℕ) (w : List ℕ) : Type 0 where
+  pub turn : Turn
+  pub stamp : ℕ
+  pub chosen : NetChosen g stamp n w turn
+  pub count : c ≡ length (turnNet turn .edges)
+
+abbrev pub turnVias : Turn → ℕ
+turnVias u = vias (u .job) (turnNet u .pins) (turnNet u .edges) (turnLayers u)
+
+-- ---- after it
+
+-- the net's layers stand in its stretch, and the working numbers hold the plan with this net
+pub record NetPlaced (g : Shape) (stamp : ℕ) (w out : List ℕ) (u : Turn) : Type 0 where
+  pub layers : out ≡ turnLayers u
+  pub so-far : SoFar g (u .job) (turnPlan u) w
+  pub older : Older (suc stamp) (tilesOf g w)
+
+-- the same, and r is the net's vias
+pub record TurnDone (g : Shape) (stamp : ℕ) (w out : List ℕ) (r : ℕ) (u : Turn) : Type 0 where
+  pub placed : NetPlaced g stamp w out u
+  pub vias-are : r ≡ turnVias u
