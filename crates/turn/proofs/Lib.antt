@@ -1,3 +1,7 @@
 mod Masks
 mod Engine
 mod Answer
+mod Net
+mod Reading
+mod Choosing
+mod Writing

@@ -1,13 +1,13 @@
 -- The loop over the walk places that puts the legal layers of the edge above each.
 -- Assumes nothing.
 use mathlib.Core.List.{List}
-use mathlib.Core.Path.{_≡_, refl, sym, ap, ap₂, _∙_}
+use mathlib.Core.Path.{_≡_, sym, ap, _∙_}
 use Prim.Native.Nat.{ℕ, _+_, _≤_, _<_}
 use native.Mathlib.Decide.{ℕ-discrete}
 use native.Mathlib.Omega.{arith}
 use lib.ListN.{length, getD, set}
 use lib.Seq.{getD-set-same, getD-set-other}
-use Rattle.layout.specs.Areas.{flatAt, aboveAt}
+use Rattle.layout.specs.Areas.{aboveAt}
 use Rattle.layout.specs.Parts.{Outside, set-outside, outside-wider, outside-then, outside-same}
 use Rattle.layout.specs.declared.Shape.{Shape}
 use Rattle.tracks.specs.Legal.{legalMask}

@@ -5,7 +5,7 @@ use mathlib.Core.List.{List}
 use mathlib.Core.Path.{_≡_, refl, ap, ap₂, _∙_}
 use Prim.Native.Nat.{ℕ, zero, suc, _+_, _-_, _*_, _≤_, _<_}
 use native.Mathlib.Omega.{arith}
-use lib.ListN.{length, getD}
+use lib.ListN.{getD}
 use Rattle.layout.specs.Areas.{loadsAt, demandAt, flatAt}
 use Rattle.layout.specs.Parts.{Outside}
 use Rattle.layout.specs.declared.Shape.{Shape}

@@ -3,7 +3,7 @@
 use mathlib.Core.List.{List, [], _∷_, map}
 use mathlib.Core.Path.{_≡_}
 use Prim.Native.Nat.{ℕ, _+_, _*_, _≤_, _<_}
-use lib.ListN.{length, getD, set}
+use lib.ListN.{getD, set}
 use Rattle.layout.specs.Areas.{chosenAt, listAt, aboveAt, engineAt}
 use Rattle.layout.specs.Parts.{part, Outside}
 use Rattle.layout.specs.declared.Shape.{Shape}

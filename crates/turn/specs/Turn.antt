@@ -51,6 +51,10 @@ turnWalk u = walk (u .job) (turnNet u)
 abbrev pub walkLayers : Turn → List ℕ
 walkLayers u = bestInWalk (u .job) (u .plan) (turnNet u) (turnWalk u)
 
+-- "MO/K rounded up"
+abbrev pub turnLimit : Turn → ℕ
+turnLimit u = limit (u .job)
+
 -- the grid and the stack are those of the job
 pub record OfJob (g : Shape) (j : Job) : Type 0 where
   pub width : g .w ≡ j .width
@@ -74,7 +78,7 @@ pub record BeforeSome (s : List ℕ) (p q : ℕ) (g : Shape) (stamp : ℕ) (w : 
 -- the same, with MO/K rounded up as the limit m, and a stretch of c numbers for the net's layers
 pub record TurnAt (s : List ℕ) (p q : ℕ) (g : Shape) (stamp m : ℕ) (w : List ℕ) (c : ℕ) (u : Turn) : Type 0 where
   pub before : Before s p q g stamp w u
-  pub limit-is : m ≡ limit (u .job)
+  pub limit-is : m ≡ turnLimit u
   pub count : c ≡ length (turnNet u .edges)
 
 pub record TurnSome (s : List ℕ) (p q : ℕ) (g : Shape) (stamp m : ℕ) (w : List ℕ) (c : ℕ) : Type 0 where
@@ -101,7 +105,7 @@ pub record WalkedSome (g : Shape) (n m : ℕ) (w : List ℕ) : Type 0 where
   pub turn : Turn
   pub stamp : ℕ
   pub walked : NetWalked g stamp n w turn
-  pub limit-is : m ≡ limit (turn .job)
+  pub limit-is : m ≡ turnLimit turn
 
 -- the layers are chosen, by walk place
 pub record NetChosen (g : Shape) (stamp n : ℕ) (w : List ℕ) (u : Turn) : Type 0 where

@@ -3,7 +3,7 @@
 use layout::Shape;
 ghost use mathlib.Core.List.{List};
 ghost use mathlib.Core.Path.{_≡_};
-ghost use Prim.Native.Nat.{ℕ, _+_, _*_, _<_, _≤_};
+ghost use Prim.Native.Nat.{ℕ, _*_, _≤_};
 ghost use lib.ListN.{length};
 ghost use Rattle.engine.specs.Net.{Holds, HoldsNet, Placed};
 ghost use Rattle.layout.specs.Areas.{chosenAt, engineAt, areasEnd};
@@ -13,6 +13,7 @@ ghost use Rattle.model.specs.Job.{Job, Net};
 ghost use Rattle.model.specs.Limits.{mostNets};
 ghost use Rattle.tracks.specs.OccupiedAll.{edgesOf, layersIn};
 ghost use Rattle.tracks.specs.Places.{SmallCapacities};
+ghost use Rattle.turn.specs.Turn.{Turn, turnLimit, turnVias, Before, BeforeSome, TurnAt, TurnSome, NetWalked, WalkedSome, NetChosen, ChosenSome, NetPlaced, TurnDone};
 ghost use Rattle.turn.specs.Steps.{KnownEdges, LegalPut, engineOf, putBy, CanAnswer, listedLayers};
 
 // Puts the legal layers of the edge above each of n walk places but the first.
@@ -73,4 +74,66 @@ fn put_answer(w: &[u32], g: Shape, out: &mut [u8])
         let edge = w[list + i] as usize;
         out[i] = w[chosen + edge] as u8;
     }
+}
+
+// Reads the net again whose lines stand at `pins` and `edges`, and walks it. How many tiles it has.
+fn read_and_walk(s: &[u8], pins: usize, edges: usize, w: &mut [u32], g: Shape, stamp: u32) -> usize
+    requires { ⌜ Shaped g ⌝ }
+    requires { ⌜ (areasEnd g ≤ length (now w)) × (stamp ≤ 8192) ⌝ }
+    requires { ⌜ BeforeSome (now s) pins edges g stamp (now w) ⌝ }
+    ensures { λ r. ⌜ ((u : Turn) → Before (now (s .entry)) pins edges g stamp (now (w .entry)) u → NetWalked g stamp r (now (w .exit)) u) ⌝ }
+    ensures { λ _. ⌜ length (now (w .exit)) ≡ length (now (w .entry)) ⌝ }
+{
+    let net = netread::read_net(s, pins, edges, w, g, stamp);
+    walk::walk(w, g, stamp, net.low)
+}
+
+// Chooses the layers of the net with n tiles that is walked. Its vias.
+fn choose_layers(w: &mut [u32], g: Shape, n: usize, limit: u32) -> u32
+    requires { ⌜ Shaped g ⌝ }
+    requires { ⌜ areasEnd g ≤ length (now w) ⌝ }
+    requires { ⌜ WalkedSome g n limit (now w) ⌝ }
+    ensures { λ r. ⌜ ((u : Turn) (stamp : ℕ) → NetWalked g stamp n (now (w .entry)) u → limit ≡ turnLimit u → NetChosen g stamp n (now (w .exit)) u × (r ≡ turnVias u)) ⌝ }
+    ensures { λ _. ⌜ length (now (w .exit)) ≡ length (now (w .entry)) ⌝ }
+{
+    put_legal(w, g, n, limit);
+    place(w, g, n)
+}
+
+// Writes the chosen layers into the net's stretch `out` of the answer list, and puts one more net on them.
+fn write_layers(w: &mut [u32], g: Shape, n: usize, out: &mut [u8])
+    requires { ⌜ Shaped g ⌝ }
+    requires { ⌜ areasEnd g ≤ length (now w) ⌝ }
+    requires { ⌜ ChosenSome g n (length (now out)) (now w) ⌝ }
+    ensures { λ _. ⌜ ((u : Turn) (stamp : ℕ) → NetChosen g stamp n (now (w .entry)) u → NetPlaced g stamp (now (w .exit)) (now (out .exit)) u) ⌝ }
+    ensures { λ _. ⌜ length (now (w .exit)) ≡ length (now (w .entry)) ⌝ }
+{
+    put_chosen(w, g, n);
+    put_answer(w, g, out);
+    tracks::occupy_all(w, g, n);
+}
+
+// A net takes its turn. Its lines stand at `pins` and `edges` of the text, `limit` is MO/K rounded up, and `out` is its own stretch of the answer list.
+// The caller knows, in its proof, the job and the plan so far: it says once to `requires` that this is some net's turn (`TurnSome`), and once more to
+// `ensures` which (`TurnAt`), and has the net's layers in `out`, its vias as the number returned, and the plan with this net in the working numbers.
+pub fn take_turn(
+    s: &[u8],
+    pins: usize,
+    edges: usize,
+    w: &mut [u32],
+    g: Shape,
+    stamp: u32,
+    limit: u32,
+    out: &mut [u8],
+) -> u32
+    requires { ⌜ Shaped g ⌝ }
+    requires { ⌜ (areasEnd g ≤ length (now w)) × (stamp ≤ 8192) ⌝ }
+    requires { ⌜ TurnSome (now s) pins edges g stamp limit (now w) (length (now out)) ⌝ }
+    ensures { λ r. ⌜ ((u : Turn) → TurnAt (now (s .entry)) pins edges g stamp limit (now (w .entry)) (length (now (out .entry))) u → TurnDone g stamp (now (w .exit)) (now (out .exit)) r u) ⌝ }
+    ensures { λ _. ⌜ length (now (w .exit)) ≡ length (now (w .entry)) ⌝ }
+{
+    let n = read_and_walk(s, pins, edges, w, g, stamp);
+    let vias = choose_layers(w, g, n, limit);
+    write_layers(w, g, n, out);
+    vias
 }

@@ -1,10 +1,8 @@
 -- `place` meets its contract.
 -- Assumes nothing.
-use mathlib.Core.Path.{_≡_}
 use Prim.Native.Nat.{_+_, _*_}
 use native.Mathlib.Omega.{arith}
 use borrow.Author.Needs.{needs}
-use Rattle.layout.specs.Areas.{engineAt}
 use Rattle.turn.proofs.Engine.{lent-holds, put-back}
 use Rattle.turn.proofs.place.Statement.{statement}
 use Rattle.turn.proofs.place.Tie as tie

@@ -5,7 +5,7 @@ use Prim.Native.Nat.{ℕ, _+_, _-_, _*_, _≤_, _<_}
 use native.Mathlib.Omega.{arith}
 use lib.ListN.{length, getD}
 use borrow.Author.Needs.{needs}
-use Rattle.layout.specs.Areas.{chosenAt, aboveAt}
+use Rattle.layout.specs.Areas.{aboveAt}
 use Rattle.tracks.specs.OccupiedAll.{layersAt}
 use Rattle.turn.proofs.Answer.{Putting, putting-start, put-known, putting-next, putting-done}
 use Rattle.turn.proofs.put_chosen.Statement.{statement}

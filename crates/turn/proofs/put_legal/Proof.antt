@@ -1,6 +1,6 @@
 -- `put_legal` meets its contract. The loop's invariant: the masks of the places before i stand, and the rest is as it was.
 -- Assumes nothing.
-use mathlib.Core.Path.{_≡_, _∙_}
+use mathlib.Core.Path.{_≡_}
 use Prim.Native.Nat.{ℕ, _+_, _-_, _*_, _≤_}
 use native.Mathlib.Omega.{arith}
 use lib.ListN.{length}
