@@ -7,7 +7,7 @@ ghost use Prim.Native.Nat.{ℕ, _*_, _≤_};
 ghost use lib.ListN.{length};
 ghost use Rattle.engine.specs.Net.{Holds, HoldsNet, Placed};
 ghost use Rattle.layout.specs.Areas.{chosenAt, engineAt, areasEnd};
-ghost use Rattle.layout.specs.Parts.{part, Outside};
+ghost use Rattle.layout.specs.Parts.{Outside};
 ghost use Rattle.layout.specs.Shapes.{Shaped};
 ghost use Rattle.model.specs.Job.{Job, Net};
 ghost use Rattle.model.specs.Limits.{mostNets};

@@ -28,7 +28,7 @@ module _ (d : tie.After-chosen-at Inv-loop μ-loop) where
   b = d .chosen-at .result
 
   a-is : a ≡ listAt (s .args .g)
-  a-is = d .before .list-at .ensures .0
+  a-is = omega (arith, d .before .list-at .ensures .0)
 
   b-is : b ≡ chosenAt (s .args .g)
   b-is = d .chosen-at .ensures .0

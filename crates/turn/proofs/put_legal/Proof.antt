@@ -50,7 +50,10 @@ legal-requires c κs =
       p .0,
       (
         (
-          edge-known (x .g) (a d) (b d) (x .limit) (x .n) (x .w .now) (a-is d) (b-is d) (p .1 .0 .2) (p .1 .1 .1) (l .loop .w) (l .loop .i) (h .2) (h .0) (omega arith),
+          omega (
+            arith,
+            edge-known (x .g) (a d) (b d) (x .limit) (x .n) (x .w .now) (a-is d) (b-is d) (p .1 .0 .2) (p .1 .1 .1) (l .loop .w) (l .loop .i) (h .2) (h .0) (omega arith),
+          ),
           omega (arith, h .2 .outside .long, p .1 .0 .0),
           p .1 .0 .3,
         ),
