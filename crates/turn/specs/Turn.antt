@@ -1,10 +1,11 @@
 -- A net's turn: what is asked before it, what stands in the working numbers between its steps, and what it leaves.
 -- Assumes nothing.
 use mathlib.Core.List.{List, _∷_}
-use mathlib.Core.Path.{_≡_}
+use mathlib.Core.Path.{_≡_, ap}
 use Prim.Native.Nat.{ℕ, suc, _+_, _-_, _≤_, _<_}
 use lib.ListN.{length, getD, set}
 use Rattle.layout.specs.Areas.{listAt, aboveAt, engineAt}
+use Rattle.layout.specs.Shapes.{shapeOf}
 use Rattle.layout.specs.declared.Shape.{Shape}
 use Rattle.marks.specs.Marks.{Older}
 use Rattle.marks.specs.Words.{bitOf}
@@ -20,7 +21,7 @@ use Rattle.net.specs.AtHand.{tilesOf}
 use Rattle.net.specs.SoFar.{SoFar}
 use Rattle.net.specs.Table.{PinsAt, EdgesAt}
 use Rattle.theory.specs.links.Engine.{firstAt, pinsAt}
-use Rattle.theory.specs.links.Planned.{Midway}
+use Rattle.theory.specs.links.Planned.{Midway, midway-next}
 use Rattle.theory.specs.links.Reading.{Accepted}
 use Rattle.tracks.specs.OccupiedAll.{edgesOf, layersIn}
 
@@ -60,6 +61,13 @@ pub record OfJob (g : Shape) (j : Job) : Type 0 where
   pub width : g .w ≡ j .width
   pub height : g .h ≡ j .height
   pub layers : g .k ≡ j .layers
+
+pub of-job : (g : Shape) (j : Job) → g ≡ shapeOf (j .width) (j .height) (j .layers) → OfJob g j
+of-job g j e = record { width = ap (λ (a : Shape). a .w) e; height = ap (λ (a : Shape). a .h) e; layers = ap (λ (a : Shape). a .k) e }
+
+-- where the plan stands after the turn: the nets left are the rest
+pub turn-next : (u : Turn) → Midway (u .lent) (u .job) (u .accepted) (u .rest) (turnPlan u)
+turn-next u = midway-next (u .lent) (u .job) (u .accepted) (u .entry) (u .rest) (u .plan) (u .midway)
 
 -- ---- before the turn
 
