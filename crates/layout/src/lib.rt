@@ -196,6 +196,13 @@ pub fn engine_at(g: Shape) -> usize
 
 // ---- the net table: six numbers for each net
 
+// A stored number as a place or a count.
+pub fn index(x: u32) -> usize
+    ensures { λ r. ⌜ (r ≡ x) × (r < 4294967296) ⌝ }
+{
+    x as usize
+}
+
 // The place in the text after `pins=`.
 pub fn pins_column(i: usize) -> usize
     requires { ⌜ i < 4096 ⌝ }

@@ -116,12 +116,6 @@ fn density(s: &[u8], at: usize, w: &[u32], g: Shape) -> Density
     entries_density(s, at, w, g)
 }
 
-fn index(x: u32) -> usize
-    ensures { λ r. ⌜ r ≡ x ⌝ }
-{
-    x as usize
-}
-
 // The score of net i, counted from 0.
 fn net_score(s: &[u8], w: &[u32], g: Shape, a: Weights, table: &[u32], i: usize) -> u64
     requires { ⌜ Shaped g ⌝ }
@@ -129,7 +123,7 @@ fn net_score(s: &[u8], w: &[u32], g: Shape, a: Weights, table: &[u32], i: usize)
     requires { ⌜ SomeNet (now s) g a (now w) (now table) i ⌝ }
     ensures { λ r. ⌜ ((lent : Lent) (j : Job) → Ready (now (s .entry)) g a (now (w .entry)) (now (table .entry)) lent j → i < netCount j → r ≡ scores.score j (netOf j (suc i))) ⌝ }
 {
-    let at = index(table[layout::edges_column(i)]);
+    let at = layout::index(table[layout::edges_column(i)]);
     let edges = wide(table[layout::count_column(i)]);
     let pins = wide(table[layout::entries_column(i)]);
     let x = density(s, at, w, g);

@@ -31,7 +31,7 @@ module _ (c : tie.After-wide2) where
 
   p-is : p ≡ getD (s .args .table .now) (edgesColumn (s .args .i)) 0
   p-is =
-      c .before .before .before .before .before .before .index .ensures
+      c .before .before .before .before .before .before .index .ensures .0
       ∙ ap (λ (k : ℕ). getD (s .args .table .now) k 0) (c .before .before .before .before .before .before .before .before .edges-column .ensures .0)
 
   edges-is : edges ≡ getD (s .args .table .now) (countColumn (s .args .i)) 0

@@ -1,0 +1,126 @@
+-- One turn: what the row of the net lends to it, and what it leaves in the answer list.
+-- Assumes nothing.
+use mathlib.Core.List.{List, [], _++_, append-assoc}
+use mathlib.Core.Path.{_≡_, sym, ap, ap₂, _∙_, subst}
+use Prim.Native.Nat.{ℕ, suc, _+_, _-_, _≤_, _<_}
+use native.Mathlib.Omega.{arith}
+use lib.ListN.{length, take, drop, getD, length-append, length-take, length-drop, length-map}
+use lib.Seq.{drop-drop, drop-append-add, sets, sets-eq}
+use borrow.Rule.Slice.PartMut.{putMid}
+use Rattle.layout.specs.Parts.{back-outside}
+use Rattle.layout.specs.Table.{pinsColumn, edgesColumn, firstColumn, countColumn}
+use Rattle.layout.specs.declared.Shape.{Shape}
+use Rattle.model.specs.Demand3.{planIn}
+use Rattle.model.specs.Job.{Net, Job, netCount, netOf, netEdges, entryCount}
+use Rattle.model.specs.Plan.{layerOf, bestInWalk, best}
+use Rattle.model.specs.Walk.{walk}
+use Rattle.net.specs.Table.{PinsAt, EdgesAt, Row}
+use Rattle.theory.specs.links.Planned.{same-net, turn-edges, turn-inside}
+use Rattle.theory.specs.links.Stretches.{offset, offset-room, cut-sets}
+use Rattle.turn.specs.Turn.{Turn, turnNet, turnLayers, TurnAt, TurnDone}
+use Rattle.placing.specs.Turns.{RowTurn, RowDone}
+use Rattle.placing.specs.declared.NetRow.{NetRow}
+
+-- what lies beyond a stretch that is written
+drop-past : (a k b : ℕ) (w p : List ℕ) → a + k ≤ length w → length p ≡ k → a + k ≤ b → drop b (putMid a k w p) ≡ drop b w
+drop-past a k b w p room long h =
+    let x : b ≡ length (take a w ++ p) + (b - (a + k)) = omega (arith, length-append (take a w) p, length-take a w) in
+    let y : b ≡ a + (k + (b - (a + k))) = omega arith in
+    ap₂ (λ (m : ℕ) (l : List ℕ). drop m l) x (sym (append-assoc (take a w) p (drop k (drop a w))))
+    ∙ drop-append-add (take a w ++ p) (drop k (drop a w)) (b - (a + k))
+    ∙ drop-drop (b - (a + k)) k (drop a w)
+    ∙ drop-drop (k + (b - (a + k))) a w
+    ∙ ap (λ (m : ℕ). drop m w) (sym y)
+
+module _ (s : List ℕ) (g : Shape) (stamp m : ℕ) (w table answer : List ℕ) (i : ℕ) (u : Turn) (at : RowTurn s g stamp m w table (length answer) i u) where
+  abbrev j : Job
+  j = u .job
+
+  inside-turn : u .entry .net - 1 < netCount (u .job)
+  inside-turn = turn-inside (u .lent) j (u .accepted) (u .entry) (u .rest) (u .plan) (u .midway)
+
+  pub inside : i < netCount (u .job)
+  inside = omega (arith, at .net-is, inside-turn)
+
+  same : netOf (u .job) (suc i) ≡ turnNet u
+  same = ap (λ (k : ℕ). netOf j (suc k)) (at .net-is) ∙ same-net (u .lent) j (u .accepted) (u .entry) (u .rest) (u .plan) (u .midway)
+
+  edges-here : getD (netEdges (u .job)) i [] ≡ turnNet u .edges
+  edges-here =
+      ap (λ (k : ℕ). getD (netEdges j) k []) (at .net-is) ∙ turn-edges (u .lent) j (u .accepted) (u .entry) (u .rest) (u .plan) (u .midway)
+
+  layers-long : length (turnLayers u) ≡ length (turnNet u .edges)
+  unfolding best
+  layers-long = length-map {B = ℕ} (turnNet u .edges) (layerOf (walk j (turnNet u)) (bestInWalk j (u .plan) (turnNet u) (walk j (turnNet u))))
+
+  row : Row s (u .job) table i
+  row = at .rows .rows i inside
+
+  edges-long : length (netEdges (u .job)) ≡ netCount (u .job)
+  edges-long = length-map {B = List ℕ} (j .nets) (λ n. n .edges)
+
+  pub count-is : getD table (countColumn i) 0 ≡ length (turnNet u .edges)
+  count-is = row .edge-count ∙ ap (λ (n : Net). length (n .edges)) same
+
+  stretch : offset (netEdges (u .job)) i + length (turnNet u .edges) ≤ entryCount (u .job)
+  stretch = omega (arith, offset-room (netEdges j) i (omega (arith, edges-long, inside)), ap length edges-here)
+
+  pub stretch-in : getD table (firstColumn i) 0 + getD table (countColumn i) 0 ≤ length answer
+  stretch-in = omega (arith, row .first, count-is, stretch, at .room)
+
+  -- the row as the code has it
+  module _ (r : NetRow) (pins-is : r .pins ≡ getD table (pinsColumn i) 0) (edges-is : r .edges ≡ getD table (edgesColumn i) 0)
+      (first-is : r .first ≡ getD table (firstColumn i) 0) (counted : r .count ≡ getD table (countColumn i) 0) where
+    size : r .first + r .count - r .first ≡ length (turnNet u .edges)
+    size = omega (arith, counted, count-is)
+
+    pub lent-inside : r .first + r .count ≤ length answer
+    lent-inside = omega (arith, first-is, counted, stretch-in)
+
+    lent-long : length (take (r .first + r .count - r .first) (drop (r .first) answer)) ≡ length (turnNet u .edges)
+    lent-long = omega (arith, length-take (r .first + r .count - r .first) (drop (r .first) answer), length-drop (r .first) answer, size, lent-inside)
+
+    pub turn-at : TurnAt s (r .pins) (r .edges) g stamp m w (length (take (r .first + r .count - r .first) (drop (r .first) answer))) u
+    turn-at = record {
+      before = record {
+        grid = at .grid;
+        so-far = at .so-far;
+        older = at .older;
+        pins = subst (λ (n : Net). PinsAt s (j .width) (j .height) (j .layers) (r .pins) n) same
+            (subst (λ (p : ℕ). PinsAt s (j .width) (j .height) (j .layers) p (netOf j (suc i))) (sym pins-is) (row .pins));
+        edges = subst (λ (n : Net). EdgesAt s (j .width) (j .height) (r .edges) n) same
+            (subst (λ (p : ℕ). EdgesAt s (j .width) (j .height) p (netOf j (suc i))) (sym edges-is) (row .edges));
+      };
+      limit-is = at .limit-is;
+      count = lent-long;
+    }
+
+    module _ (w′ out : List ℕ) (v : ℕ) (done : TurnDone g stamp w′ out v u) where
+      out-long : length out ≡ length (turnNet u .edges)
+      out-long = ap length (done .placed .layers) ∙ layers-long
+
+      put-is : putMid (r .first) (r .first + r .count - r .first) answer out ≡ sets answer (offset (netEdges (u .job)) i) (turnLayers u)
+      put-is =
+          let k : r .first + (r .first + r .count - r .first) ≡ r .first + length out = omega (arith, size, out-long) in
+          ap (λ (l : List ℕ). take (r .first) answer ++ (out ++ l)) (drop-drop (r .first + r .count - r .first) (r .first) answer ∙ ap (λ (n : ℕ). drop n answer) k)
+          ∙ sym (append-assoc (take (r .first) answer) out (drop (r .first + length out) answer))
+          ∙ sym (sets-eq out answer (r .first) (omega (arith, lent-inside, size, out-long)))
+          ∙ ap₂ (λ (n : ℕ) (y : List ℕ). sets answer n y) (first-is ∙ row .first) (done .placed .layers)
+
+      pub answer-long : length (putMid (r .first) (r .first + r .count - r .first) answer out) ≡ length answer
+      answer-long =
+          back-outside (r .first) (r .first + r .count - r .first) answer out (omega (arith, lent-inside)) (omega (arith, out-long, size)) .long
+
+      pub row-done : RowDone g stamp w′ answer (putMid (r .first) (r .first + r .count - r .first) answer out) i v u
+      row-done = record {
+        so-far = done .placed .so-far;
+        older = done .placed .older;
+        vias-are = done .vias-are;
+        plan-is =
+            ap (planIn j) put-is
+            ∙ cut-sets (netEdges j) answer i (turnLayers u) (omega (arith, edges-long, inside)) (at .room)
+            (sym (ap length (done .placed .layers)) ∙ out-long ∙ sym (ap length edges-here));
+        beyond =
+            drop-past (r .first) (r .first + r .count - r .first) (entryCount j) answer out (omega (arith, lent-inside)) (omega (arith, out-long, size))
+            (omega (arith, first-is, row .first, size, stretch));
+      }
