@@ -1,0 +1,57 @@
+-- The steps of a call: a job that is read and checked, and its plan.
+-- Assumes nothing.
+use mathlib.Core.List.{List}
+use mathlib.Core.Path.{_≡_}
+use Prim.Native.Nat.{ℕ, _≤_}
+use Rattle.head.specs.declared.Head.{Head}
+use Rattle.lines.specs.Told.{refusedBy}
+use Rattle.model.specs.Job.{Job, netCount, entryCount}
+use Rattle.model.specs.Overflow.{TO, limit}
+use Rattle.model.specs.Read.{Lent, Place, found, read}
+use Rattle.net.specs.Checked.{Checked}
+use Rattle.order.specs.Ordered.{Ordered}
+use Rattle.placing.specs.Turns.{AllPlaced}
+use Rattle.theory.specs.links.Reading.{Accepted}
+use Rattle.layerplan.specs.declared.Outcome.{Outcome}
+use Rattle.layerplan.specs.declared.Outcome.the-variants.{Made, Refused}
+use Rattle.layerplan.specs.declared.Totals.{Totals}
+
+-- the job j is accepted and its text checked; the answer list has this length
+pub record Given (s : List ℕ) (h : Head) (w table : List ℕ) (size : ℕ) (lent : Lent) (j : Job) : Type 0 where
+  pub accepted : Accepted lent j
+  pub checked : Checked s (h .shape) j w table
+  pub alpha : h .alpha ≡ j .alpha
+  pub beta : h .beta ≡ j .beta
+  pub gamma : h .gamma ≡ j .gamma
+  pub count : h .nets ≡ netCount j
+  pub room : entryCount j ≤ size
+
+pub record GivenSome (s : List ℕ) (h : Head) (w table : List ℕ) (size : ℕ) : Type 0 where
+  pub lent : Lent
+  pub job : Job
+  pub given : Given s h w table size lent job
+
+-- the order list, the answer list and the net table hold the plan of job j, and t is told of it
+pub record PlanMade (j : Job) (nets nets′ scores scores′ answer answer′ table′ : List ℕ) (t : Totals) : Type 0 where
+  pub ordered : Ordered j nets nets′ scores scores′
+  pub placed : AllPlaced j answer answer′ table′ (t .vias)
+  pub total-is : t .total ≡ TO j
+  pub maximum-is : t .maximum ≡ limit j
+
+-- the text is accepted, and its job of n nets is planned
+pub record PlanFound (s : List ℕ) (lent : Lent) (nets nets′ scores scores′ answer answer′ table′ : List ℕ) (n : ℕ) (t : Totals) : Type 0 where
+  pub job : Job
+  pub place : Place
+  pub is : read lent s ≡ found job place
+  pub count : n ≡ netCount job
+  pub made : PlanMade job nets nets′ scores scores′ answer answer′ table′ t
+
+-- "order list, answer list [..] are unchanged" by a refusal
+pub record NoPlan (nets nets′ scores scores′ answer answer′ : List ℕ) : Type 0 where
+  pub nets-same : nets′ ≡ nets
+  pub scores-same : scores′ ≡ scores
+  pub answer-same : answer′ ≡ answer
+
+abbrev pub PlanTold : List ℕ → Lent → List ℕ → List ℕ → List ℕ → List ℕ → List ℕ → List ℕ → List ℕ → Outcome → Type 0
+PlanTold s lent nets nets′ scores scores′ answer answer′ table′ (Refused r) = (read lent s ≡ refusedBy r) × NoPlan nets nets′ scores scores′ answer answer′
+PlanTold s lent nets nets′ scores scores′ answer answer′ table′ (Made n t) = PlanFound s lent nets nets′ scores scores′ answer answer′ table′ n t
