@@ -1,34 +1,40 @@
 -- From the plan that is made to what the definitions say of the call.
 -- Assumes nothing.
 use mathlib.Core.List.{List, [], _∷_, _++_, map}
-use mathlib.Core.Option.{none}
+use mathlib.Core.Option.{Option, none, some}
 use mathlib.Core.Path.{_≡_, refl, sym, ap, ap₂, _∙_, subst}
 use Prim.Native.Nat.{ℕ, zero, suc, _+_, _-_, _≤_, min}
 use native.Mathlib.Omega.{arith}
-use lib.ListN.{length, drop, getD, replicate, length-map, length-replicate}
-use lib.Seq.{drop-append-add, drop-drop}
+use lib.Dec.{T, leb→le}
+use lib.ListN.{length, take, drop, getD, replicate, length-append, length-map, length-replicate}
+use lib.Seq.{drop-append-add, drop-drop, take-at, sets}
 use Rattle.lines.specs.Told.{refusedBy}
-use Rattle.model.specs.Calls.{refusal, outcomeOf, outcome, Buffers, overwrite, stretches, cleared, plannedBy, Planned as PlannedBy, planLent, planCall}
+use Rattle.model.specs.Calls.{refusal, accepted as accepted-with, toldOf, outcomeOf, outcome, Buffers, overwrite, stretches, plannedBy, Planned as PlannedBy, planLent, planCall, printedBy, Printed as PrintedBy, printLent, printCall}
 use Rattle.model.specs.Demand3.{Met}
-use Rattle.model.specs.Job.{Job, netCount, netEdges}
+use Rattle.model.specs.Job.{Job, netCount, netEdges, entryCount}
 use Rattle.model.specs.Overflow.{totalOverflow, maxOverflow}
 use Rattle.model.specs.Plan.{plan}
-use Rattle.model.specs.Read.{Lent, Place, Result, refused, found, read}
+use Rattle.model.specs.Print.{printed}
+use Rattle.model.specs.Read.{Lent, Place, Result, refused, found, printNeed, printFits, read}
 use Rattle.model.specs.Score.{Entry, order}
+use Rattle.print.specs.Held.{Handed, plan-rows, plan-text, plan-fits, plan-overwrites}
+use Rattle.print.specs.Texts.{planText, Rows}
 use Rattle.reader.specs.Whole.{lentBy}
-use Rattle.reader.specs.declared.PrintRoom.the-variants.{Absent}
+use Rattle.reader.specs.declared.PrintRoom.the-variants.{Absent, Bytes}
 use Rattle.text.specs.Refusals.{numberOf, lineOf}
 use Rattle.text.specs.declared.Refusal.{Refusal}
-use Rattle.theory.specs.links.Meets.{order-long, plan-call, plan-total-is, plan-maximum-is, plan-meets-demand3}
+use Rattle.theory.specs.links.Meets.{order-long, plan-call, print-call, plan-total-is, plan-maximum-is, plan-meets-demand3, print-meets-demand3}
 use Rattle.theory.specs.links.Reading.{Accepted, accepted}
 use Rattle.theory.specs.links.Room.{plan-long}
 use Rattle.theory.specs.links.Stretches.{cut-whole}
-use Rattle.layerplan.specs.Calls.{entriesOf, Beyond, buffersOf, returnedOf}
-use Rattle.layerplan.specs.Steps.{PlanMade, PlanFound, NoPlan, PlanTold}
+use Rattle.layerplan.specs.Calls.{entriesOf, Beyond, buffersOf, returnedOf, planOf, sizeOf}
+use Rattle.layerplan.specs.Steps.{PlanMade, PlanFound, NoPlan, PlanTold, PrintFound, PrintTold}
 use Rattle.layerplan.specs.declared.Outcome.{Outcome}
 use Rattle.layerplan.specs.declared.Outcome.the-variants.{Made, Refused}
 use Rattle.layerplan.specs.declared.Planned.{Planned}
 use Rattle.layerplan.specs.declared.Planned.the-variants.{Plan as PlanOf, Refused as RefusedBy}
+use Rattle.layerplan.specs.declared.Printed.{Printed}
+use Rattle.layerplan.specs.declared.Printed.the-variants.{Print, Refused as NotPrinted}
 use Rattle.layerplan.specs.declared.Totals.{Totals}
 
 -- ---- the working numbers that are cleared
@@ -92,69 +98,187 @@ module _ (lent : Lent) (j : Job) (acc : Accepted lent j) (nets nets′ scores sc
 
 -- ---- the two outcomes
 
--- the lengths that are lent, as the call has them and as the definitions do; w is the cleared buffer
-pub lent-is : (work w nets scores answer : List ℕ) → w ≡ replicate (length work) 0
-    → planLent (buffersOf work nets scores answer) ≡ lentBy (length w) (min (length nets) (length scores)) (length answer) Absent
-lent-is work w nets scores answer e =
-    let l : length work ≡ length w = sym (ap length e ∙ length-replicate (length work) 0) in
-    ap₂ {C = Lent} (λ a b. record { working = a; order = b; answer = length answer; print = none }) l (entries-long nets scores)
-
-module _ (s work nets scores answer : List ℕ) where
+module _ (work nets scores answer w′ nets′ scores′ answer′ : List ℕ) (again : w′ ≡ replicate (length work) 0) where
   abbrev b : Buffers
   b = buffersOf work nets scores answer
+
+  pub beyond-refused : NoPlan nets nets′ scores scores′ answer answer′ → Beyond nets nets′ scores scores′
+  beyond-refused k =
+      let numbers : drop (length (entriesOf nets scores)) nets′ ≡ drop (length (entriesOf nets scores)) nets = ap (drop (length (entriesOf nets scores))) (k .nets-same) in
+      let values : drop (length (entriesOf nets scores)) scores′ ≡ drop (length (entriesOf nets scores)) scores = ap (drop (length (entriesOf nets scores))) (k .scores-same) in
+      record { numbers = numbers; values = values }
+
+  -- nothing is written for a refused job
+  pub left-refused : (r : Refusal) → NoPlan nets nets′ scores scores′ answer answer′
+      → record { returned = returnedOf (RefusedBy r); buffers = buffersOf w′ nets′ scores′ answer′ }
+      ≡ plannedBy (refusal (numberOf r) (lineOf r)) (buffersOf work nets scores answer)
+  left-refused r k i = record {
+    returned = returnedOf (RefusedBy r);
+    buffers = record { working = again i; order = entriesOf (k .nets-same i) (k .scores-same i); answer = k .answer-same i };
+  }
+
+  -- a plan that is made is the job's
+  pub left-made : (lent : Lent) (s : List ℕ) (table′ : List ℕ) (n : ℕ) (t : Totals) (k : PlanFound s lent nets nets′ scores scores′ answer answer′ table′ n t)
+      → netCount (k .job) ≤ min (length nets) (length scores)
+      → record { returned = returnedOf (PlanOf t); buffers = buffersOf w′ nets′ scores′ answer′ }
+      ≡ plannedBy (accepted-with (toldOf (k .job) (order (k .job)) (plan (k .job)))) (buffersOf work nets scores answer)
+  left-made lent s table′ n t k few =
+      let j = k .job in
+      let acc = accepted lent s j (k .place) (k .is) in
+      let total : t .total ≡ totalOverflow j (plan j) = k .made .total-is ∙ sym (plan-total-is lent s j (k .place) (k .is)) in
+      let most : t .maximum ≡ maxOverflow j (plan j) = k .made .maximum-is ∙ sym (plan-maximum-is lent s j (k .place) (k .is)) in
+      let entries = order-made lent j acc nets nets′ scores scores′ answer answer′ table′ t (k .made) few in
+      let layers = answer-made lent j acc nets nets′ scores scores′ answer answer′ table′ t (k .made) few in
+      λ i. record {
+        returned = record { number = 0; line = 0; vias = k .made .placed .vias-are i; total = total i; maximum = most i };
+        buffers = record { working = again i; order = entries i; answer = layers i };
+      }
+
+-- ---- Plan
+
+-- the lengths that are lent, as the call has them and as the definitions do; w is the cleared buffer
+module _ (work w nets scores answer : List ℕ) (clear : w ≡ replicate (length work) 0) where
+  same-work : length work ≡ length w
+  same-work = sym (ap length clear ∙ length-replicate (length work) 0)
+
+  lent-plan : planLent (buffersOf work nets scores answer) ≡ lentBy (length w) (min (length nets) (length scores)) (length answer) Absent
+  lent-plan = ap₂ {C = Lent} (λ x y. record { working = x; order = y; answer = length answer; print = none }) same-work (entries-long nets scores)
+
+  lent-print : (out : List ℕ) → printLent (buffersOf work nets scores answer) out ≡ lentBy (length w) (min (length nets) (length scores)) (length answer) (Bytes (length out))
+  lent-print out = ap₂ {C = Lent} (λ x y. record { working = x; order = y; answer = length answer; print = some (length out) }) same-work (entries-long nets scores)
+
+module _ (s work nets scores answer w nets′ scores′ answer′ table′ w′ : List ℕ) (clear : w ≡ replicate (length work) 0) (again : w′ ≡ replicate (length work) 0) where
+  abbrev lent : Lent
+  lent = lentBy (length w) (min (length nets) (length scores)) (length answer) Absent
+
+  abbrev buffers : Buffers
+  buffers = buffersOf work nets scores answer
 
   call-refused : (n l : ℕ) → read (planLent (buffersOf work nets scores answer)) s ≡ refused n l
       → planCall s (buffersOf work nets scores answer) ≡ plannedBy (refusal n l) (buffersOf work nets scores answer)
   unfolding outcome
-  call-refused n l e = ap (λ (r : Result Job). plannedBy (outcomeOf r) b) e
+  call-refused n l e = ap (λ (r : Result Job). plannedBy (outcomeOf r) buffers) e
 
-  module _ (w nets′ scores′ answer′ table′ w′ : List ℕ) (clear : w ≡ replicate (length work) 0) (again : w′ ≡ replicate (length work) 0) where
-    abbrev lent : Lent
-    lent = lentBy (length w) (min (length nets) (length scores)) (length answer) Absent
+  pub plan-refused : (o : Outcome) (r : Refusal) → o ≡ Refused r
+      → PlanTold s (lentBy (length w) (min (length nets) (length scores)) (length answer) Absent) nets nets′ scores scores′ answer answer′ table′ o
+      → (record { returned = returnedOf (RefusedBy r); buffers = buffersOf w′ nets′ scores′ answer′ } ≡ planCall s (buffersOf work nets scores answer)) × Beyond nets nets′ scores scores′
+  plan-refused o r e told = go (subst (PlanTold s lent nets nets′ scores scores′ answer answer′ table′) e told)
+    where
+      go : (read lent s ≡ refusedBy r) × NoPlan nets nets′ scores scores′ answer answer′
+          → (record { returned = returnedOf (RefusedBy r); buffers = buffersOf w′ nets′ scores′ answer′ } ≡ planCall s buffers) × Beyond nets nets′ scores scores′
+      go k = (
+        left-refused work nets scores answer w′ nets′ scores′ answer′ again r (k .1)
+            ∙ sym (call-refused (numberOf r) (lineOf r) (ap (λ (x : Lent). read x s) (lent-plan work w nets scores answer clear) ∙ k .0)),
+        beyond-refused work nets scores answer w′ nets′ scores′ answer′ again (k .1),
+      )
 
-    abbrev left : Planned → PlannedBy
-    left r = record { returned = returnedOf r; buffers = buffersOf w′ nets′ scores′ answer′ }
+  pub plan-made : (o : Outcome) (n : ℕ) (t : Totals) → o ≡ Made n t
+      → PlanTold s (lentBy (length w) (min (length nets) (length scores)) (length answer) Absent) nets nets′ scores scores′ answer answer′ table′ o
+      → (record { returned = returnedOf (PlanOf t); buffers = buffersOf w′ nets′ scores′ answer′ } ≡ planCall s (buffersOf work nets scores answer)) × Beyond nets nets′ scores scores′
+  plan-made o n t e told = go (subst (PlanTold s lent nets nets′ scores scores′ answer answer′ table′) e told)
+    where
+      go : PlanFound s lent nets nets′ scores scores′ answer answer′ table′ n t
+          → (record { returned = returnedOf (PlanOf t); buffers = buffersOf w′ nets′ scores′ answer′ } ≡ planCall s buffers) × Beyond nets nets′ scores scores′
+      go k =
+          let acc = accepted lent s (k .job) (k .place) (k .is) in (
+            left-made work nets scores answer w′ nets′ scores′ answer′ again lent s table′ n t k (acc .order-fits)
+                ∙ sym (plan-call s buffers (k .job) (k .place) (ap (λ (x : Lent). read x s) (lent-plan work w nets scores answer clear) ∙ k .is)),
+            beyond-made lent (k .job) acc nets nets′ scores scores′ answer answer′ table′ t (k .made) (acc .order-fits),
+          )
 
-    pub plan-refused : (o : Outcome) (r : Refusal) → o ≡ Refused r
-        → PlanTold s (lentBy (length w) (min (length nets) (length scores)) (length answer) Absent) nets nets′ scores scores′ answer answer′ table′ o
-        → (record { returned = returnedOf (RefusedBy r); buffers = buffersOf w′ nets′ scores′ answer′ } ≡ planCall s (buffersOf work nets scores answer)) × Beyond nets nets′ scores scores′
-    plan-refused o r e told = go (subst (PlanTold s lent nets nets′ scores scores′ answer answer′ table′) e told)
-      where
-        go : (read lent s ≡ refusedBy r) × NoPlan nets nets′ scores scores′ answer answer′
-            → (left (RefusedBy r) ≡ planCall s b) × Beyond nets nets′ scores scores′
-        go k =
-            let same : read (planLent b) s ≡ refusedBy r = ap (λ (x : Lent). read x s) (lent-is work w nets scores answer clear) ∙ k .0 in
-            let numbers : drop (length (entriesOf nets scores)) nets′ ≡ drop (length (entriesOf nets scores)) nets = ap (drop (length (entriesOf nets scores))) (k .1 .nets-same) in
-            let values : drop (length (entriesOf nets scores)) scores′ ≡ drop (length (entriesOf nets scores)) scores = ap (drop (length (entriesOf nets scores))) (k .1 .scores-same) in (
-              (λ i. record {
-                returned = returnedOf (RefusedBy r);
-                buffers = record { working = again i; order = entriesOf (k .1 .nets-same i) (k .1 .scores-same i); answer = k .1 .answer-same i };
-              }) ∙ sym (call-refused (numberOf r) (lineOf r) same),
-              record { numbers = numbers; values = values },
-            )
+  -- demand 3 holds of what is returned and left
+  pub plan-met : (r : Planned) → record { returned = returnedOf r; buffers = buffersOf w′ nets′ scores′ answer′ } ≡ planCall s (buffersOf work nets scores answer)
+      → (j : Job) (p : Place) → read (planLent (buffersOf work nets scores answer)) s ≡ found j p → Met j (returnedOf r) (buffersOf w′ nets′ scores′ answer′)
+  plan-met r e j p k = subst (λ (x : PlannedBy). Met j (x .returned) (x .buffers)) (sym e) (plan-meets-demand3 s buffers j p k)
 
-    pub plan-made : (o : Outcome) (n : ℕ) (t : Totals) → o ≡ Made n t
-        → PlanTold s (lentBy (length w) (min (length nets) (length scores)) (length answer) Absent) nets nets′ scores scores′ answer answer′ table′ o
-        → (record { returned = returnedOf (PlanOf t); buffers = buffersOf w′ nets′ scores′ answer′ } ≡ planCall s (buffersOf work nets scores answer)) × Beyond nets nets′ scores scores′
-    plan-made o n t e told = go (subst (PlanTold s lent nets nets′ scores scores′ answer answer′ table′) e told)
-      where
-        go : PlanFound s lent nets nets′ scores scores′ answer answer′ table′ n t → (left (PlanOf t) ≡ planCall s b) × Beyond nets nets′ scores scores′
-        go k =
-            let j = k .job in
-            let acc = accepted lent s j (k .place) (k .is) in
-            let same : read (planLent b) s ≡ found j (k .place) = ap (λ (x : Lent). read x s) (lent-is work w nets scores answer clear) ∙ k .is in
-            let total : t .total ≡ totalOverflow j (plan j) = k .made .total-is ∙ sym (plan-total-is lent s j (k .place) (k .is)) in
-            let most : t .maximum ≡ maxOverflow j (plan j) = k .made .maximum-is ∙ sym (plan-maximum-is lent s j (k .place) (k .is)) in
-            let entries = order-made lent j acc nets nets′ scores scores′ answer answer′ table′ t (k .made) (acc .order-fits) in
-            let layers = answer-made lent j acc nets nets′ scores scores′ answer answer′ table′ t (k .made) (acc .order-fits) in (
-              (λ i. record {
-                returned = record { number = 0; line = 0; vias = k .made .placed .vias-are i; total = total i; maximum = most i };
-                buffers = record { working = again i; order = entries i; answer = layers i };
-              }) ∙ sym (plan-call s b j (k .place) same),
-              beyond-made lent j acc nets nets′ scores scores′ answer answer′ table′ t (k .made) (acc .order-fits),
-            )
+-- ---- Print
 
-    -- demand 3 holds of what is returned and left
-    pub plan-met : (r : Planned) → record { returned = returnedOf r; buffers = buffersOf w′ nets′ scores′ answer′ } ≡ planCall s (buffersOf work nets scores answer)
-        → (j : Job) (p : Place) → read (planLent (buffersOf work nets scores answer)) s ≡ found j p → Met j (returnedOf r) (buffersOf w′ nets′ scores′ answer′)
-    plan-met r e j p k = subst (λ (x : PlannedBy). Met j (x .returned) (x .buffers)) (sym e) (plan-meets-demand3 s b j p k)
+-- what is handed to the printing of a plan that is made
+module _ (s : List ℕ) (lent : Lent) (nets nets′ scores scores′ answer answer′ table′ : List ℕ) (n : ℕ) (t : Totals)
+    (k : PlanFound s lent nets nets′ scores scores′ answer answer′ table′ n t) where
+  pub job-accepted : Accepted lent (k .job)
+  job-accepted = accepted lent s (k .job) (k .place) (k .is)
+
+  order-count : length (map (λ (e : Entry). e .net) (order (k .job))) ≡ n
+  order-count = length-map {B = ℕ} (order (k .job)) (λ (e : Entry). e .net) ∙ order-long lent (k .job) job-accepted ∙ sym (k .count)
+
+  pub handed : Handed (k .job) n nets′ (t .vias) (t .total) (t .maximum)
+  handed = record {
+    count = k .count;
+    turns =
+        ap (take n) (k .made .ordered .numbers)
+        ∙ take-at (map (λ (e : Entry). e .net) (order (k .job))) (drop (length (map (λ (e : Entry). e .net) (order (k .job)))) nets) n order-count;
+    vias-told = k .made .placed .vias-are;
+    total-told = k .made .total-is ∙ sym (plan-total-is lent s (k .job) (k .place) (k .is));
+    most-told = k .made .maximum-is ∙ sym (plan-maximum-is lent s (k .job) (k .place) (k .is));
+  }
+
+  pub nets-there : n ≤ length nets′
+  nets-there =
+      omega (
+        arith,
+        ap length (k .made .ordered .numbers),
+        length-append (map (λ (e : Entry). e .net) (order (k .job))) (drop (length (map (λ (e : Entry). e .net) (order (k .job)))) nets),
+        order-count,
+      )
+
+  pub rows-there : Rows n table′ answer′
+  rows-there = plan-rows lent (k .job) job-accepted table′ answer′ (k .made .placed .held) n nets′ (t .vias) (t .total) (t .maximum) handed
+
+  pub text-is : planText n nets′ table′ answer′ (t .vias) (t .total) (t .maximum) ≡ printed (k .job) (order (k .job)) (plan (k .job))
+  text-is = plan-text lent (k .job) job-accepted table′ answer′ (k .made .placed .held) n nets′ (t .vias) (t .total) (t .maximum) handed
+
+  module _ (out : List ℕ) (room : lent .print ≡ some (length out)) where
+    print-room : printNeed (netCount (k .job)) (entryCount (k .job)) ≤ length out
+    print-room =
+        leb→le (printNeed (netCount (k .job)) (entryCount (k .job))) (length out)
+        (subst (λ (o : Option ℕ). T (printFits (printNeed (netCount (k .job)) (entryCount (k .job))) o)) room (job-accepted .print-fits))
+
+    pub text-fits : length (planText n nets′ table′ answer′ (t .vias) (t .total) (t .maximum)) ≤ length out
+    text-fits = plan-fits lent (k .job) job-accepted table′ answer′ (k .made .placed .held) n nets′ (t .vias) (t .total) (t .maximum) handed out print-room
+
+    pub print-found : (out′ : List ℕ) (size : ℕ) → out′ ≡ sets out 0 (planText n nets′ table′ answer′ (t .vias) (t .total) (t .maximum))
+        → size ≡ length (planText n nets′ table′ answer′ (t .vias) (t .total) (t .maximum))
+        → PrintFound s lent nets nets′ scores scores′ answer answer′ table′ out out′ t size
+    print-found out′ size e l = record {
+      nets-count = n;
+      planned = k;
+      text-is = e ∙ plan-overwrites lent (k .job) job-accepted table′ answer′ (k .made .placed .held) n nets′ (t .vias) (t .total) (t .maximum) handed out print-room;
+      size-is = l ∙ ap length text-is;
+    }
+
+module _ (s work nets scores answer out w nets′ scores′ answer′ table′ w′ out′ : List ℕ) (clear : w ≡ replicate (length work) 0) (again : w′ ≡ replicate (length work) 0) where
+  abbrev lentAll : Lent
+  lentAll = lentBy (length w) (min (length nets) (length scores)) (length answer) (Bytes (length out))
+
+  abbrev all : Buffers
+  all = buffersOf work nets scores answer
+
+  printing-refused : (n l : ℕ) → read (printLent (buffersOf work nets scores answer) out) s ≡ refused n l
+      → printCall s (buffersOf work nets scores answer) out ≡ printedBy (refusal n l) (buffersOf work nets scores answer) out
+  unfolding outcome
+  printing-refused n l e = ap (λ (r : Result Job). printedBy (outcomeOf r) all out) e
+
+  pub print-told : (r : Printed)
+      → PrintTold s (lentBy (length w) (min (length nets) (length scores)) (length answer) (Bytes (length out))) nets nets′ scores scores′ answer answer′ table′ out out′ r
+      → (record { returned = returnedOf (planOf r); length = sizeOf r; buffers = buffersOf w′ nets′ scores′ answer′; print = out′ } ≡ printCall s (buffersOf work nets scores answer) out)
+      × Beyond nets nets′ scores scores′
+  print-told (NotPrinted r) k =
+      let left = left-refused work nets scores answer w′ nets′ scores′ answer′ again r (k .1) in (
+        (λ i. record { returned = left i .returned; length = 0; buffers = left i .buffers; print = k .2 i })
+            ∙ sym (printing-refused (numberOf r) (lineOf r) (ap (λ (x : Lent). read x s) (lent-print work w nets scores answer clear out) ∙ k .0)),
+        beyond-refused work nets scores answer w′ nets′ scores′ answer′ again (k .1),
+      )
+  print-told (Print t size) k =
+      let f = k .planned in
+      let acc = accepted lentAll s (f .job) (f .place) (f .is) in
+      let left = left-made work nets scores answer w′ nets′ scores′ answer′ again lentAll s table′ (k .nets-count) t f (acc .order-fits) in (
+        (λ i. record { returned = left i .returned; length = k .size-is i; buffers = left i .buffers; print = k .text-is i })
+            ∙ sym (print-call s all out (f .job) (f .place) (ap (λ (x : Lent). read x s) (lent-print work w nets scores answer clear out) ∙ f .is)),
+        beyond-made lentAll (f .job) acc nets nets′ scores scores′ answer answer′ table′ t (f .made) (acc .order-fits),
+      )
+
+  pub print-met : (r : Printed)
+      → record { returned = returnedOf (planOf r); length = sizeOf r; buffers = buffersOf w′ nets′ scores′ answer′; print = out′ } ≡ printCall s (buffersOf work nets scores answer) out
+      → (j : Job) (p : Place) → read (printLent (buffersOf work nets scores answer) out) s ≡ found j p → Met j (returnedOf (planOf r)) (buffersOf w′ nets′ scores′ answer′)
+  print-met r e j p k = subst (λ (x : PrintedBy). Met j (x .returned) (x .buffers)) (sym e) (print-meets-demand3 s all out j p k)

@@ -9,6 +9,8 @@ use Rattle.model.specs.Score.{Entry}
 use Rattle.text.specs.Refusals.{numberOf, lineOf}
 use Rattle.layerplan.specs.declared.Planned.{Planned}
 use Rattle.layerplan.specs.declared.Planned.the-variants.{Plan, Refused}
+use Rattle.layerplan.specs.declared.Printed.{Printed}
+use Rattle.layerplan.specs.declared.Printed.the-variants.{Print, Refused as NotPrinted}
 
 -- the order list, lent as two plain lists of which the shorter one counts
 abbrev pub entriesOf : List ℕ → List ℕ → List Entry
@@ -29,3 +31,12 @@ buffersOf work nets scores answer = record { working = work; order = entriesOf n
 abbrev pub returnedOf : Planned → Returned
 returnedOf (Plan t) = record { number = 0; line = 0; vias = t .vias; total = t .total; maximum = t .maximum }
 returnedOf (Refused r) = record { number = numberOf r; line = lineOf r; vias = 0; total = 0; maximum = 0 }
+
+-- what Print returns, without and with the length of its text: "A refused one returns number, line and zeros"
+abbrev pub planOf : Printed → Planned
+planOf (Print t size) = Plan t
+planOf (NotPrinted r) = Refused r
+
+abbrev pub sizeOf : Printed → ℕ
+sizeOf (Print t size) = size
+sizeOf (NotPrinted r) = 0

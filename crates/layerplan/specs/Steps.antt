@@ -3,17 +3,24 @@
 use mathlib.Core.List.{List}
 use mathlib.Core.Path.{_≡_}
 use Prim.Native.Nat.{ℕ, _≤_}
+use lib.ListN.{length}
 use Rattle.head.specs.declared.Head.{Head}
 use Rattle.lines.specs.Told.{refusedBy}
 use Rattle.model.specs.Job.{Job, netCount, entryCount}
+use Rattle.model.specs.Calls.{overwrite}
 use Rattle.model.specs.Overflow.{TO, limit}
+use Rattle.model.specs.Plan.{plan}
+use Rattle.model.specs.Print.{printed}
 use Rattle.model.specs.Read.{Lent, Place, found, read}
+use Rattle.model.specs.Score.{order}
 use Rattle.net.specs.Checked.{Checked}
 use Rattle.order.specs.Ordered.{Ordered}
 use Rattle.placing.specs.Turns.{AllPlaced}
 use Rattle.theory.specs.links.Reading.{Accepted}
 use Rattle.layerplan.specs.declared.Outcome.{Outcome}
 use Rattle.layerplan.specs.declared.Outcome.the-variants.{Made, Refused}
+use Rattle.layerplan.specs.declared.Printed.{Printed}
+use Rattle.layerplan.specs.declared.Printed.the-variants.{Print, Refused as NotPrinted}
 use Rattle.layerplan.specs.declared.Totals.{Totals}
 
 -- the job j is accepted and its text checked; the answer list has this length
@@ -55,3 +62,15 @@ pub record NoPlan (nets nets′ scores scores′ answer answer′ : List ℕ) : 
 abbrev pub PlanTold : List ℕ → Lent → List ℕ → List ℕ → List ℕ → List ℕ → List ℕ → List ℕ → List ℕ → Outcome → Type 0
 PlanTold s lent nets nets′ scores scores′ answer answer′ table′ (Refused r) = (read lent s ≡ refusedBy r) × NoPlan nets nets′ scores scores′ answer answer′
 PlanTold s lent nets nets′ scores scores′ answer answer′ table′ (Made n t) = PlanFound s lent nets nets′ scores scores′ answer answer′ table′ n t
+
+-- the plan is made, and its print of this size stands at the start of the print buffer
+pub record PrintFound (s : List ℕ) (lent : Lent) (nets nets′ scores scores′ answer answer′ table′ out out′ : List ℕ) (t : Totals) (size : ℕ) : Type 0 where
+  pub nets-count : ℕ
+  pub planned : PlanFound s lent nets nets′ scores scores′ answer answer′ table′ nets-count t
+  pub text-is : out′ ≡ overwrite (printed (planned .job) (order (planned .job)) (plan (planned .job))) out
+  pub size-is : size ≡ length (printed (planned .job) (order (planned .job)) (plan (planned .job)))
+
+abbrev pub PrintTold : List ℕ → Lent → List ℕ → List ℕ → List ℕ → List ℕ → List ℕ → List ℕ → List ℕ → List ℕ → List ℕ → Printed → Type 0
+PrintTold s lent nets nets′ scores scores′ answer answer′ table′ out out′ (NotPrinted r) =
+    (read lent s ≡ refusedBy r) × NoPlan nets nets′ scores scores′ answer answer′ × (out′ ≡ out)
+PrintTold s lent nets nets′ scores scores′ answer answer′ table′ out out′ (Print t size) = PrintFound s lent nets nets′ scores scores′ answer answer′ table′ out out′ t size

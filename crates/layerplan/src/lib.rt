@@ -9,13 +9,14 @@ ghost use mathlib.Core.Path.{_≡_};
 ghost use Prim.Native.Nat.{ℕ, _≤_, min};
 ghost use lib.ListN.{length, getD};
 ghost use Rattle.layout.specs.Table.{tableSize};
-ghost use Rattle.model.specs.Calls.{planLent, planCall};
+ghost use Rattle.model.specs.Calls.{planLent, planCall, printLent, printCall};
 ghost use Rattle.model.specs.Demand3.{Met};
 ghost use Rattle.model.specs.Job.{Job};
 ghost use Rattle.model.specs.Read.{Lent, Place, found, read};
 ghost use Rattle.reader.specs.Whole.{lentBy};
-ghost use Rattle.layerplan.specs.Calls.{buffersOf, Beyond, returnedOf};
-ghost use Rattle.layerplan.specs.Steps.{Given, GivenSome, PlanMade, PlanTold};
+ghost use Rattle.reader.specs.declared.PrintRoom.the-variants.{Bytes};
+ghost use Rattle.layerplan.specs.Calls.{buffersOf, Beyond, returnedOf, planOf, sizeOf};
+ghost use Rattle.layerplan.specs.Steps.{Given, GivenSome, PlanMade, PlanTold, PrintTold};
 
 // Total vias, total and maximum of the plan.
 pub struct Totals {
@@ -33,6 +34,12 @@ enum Outcome {
 // What Plan returns.
 pub enum Planned {
     Plan(Totals),
+    Refused(Refusal),
+}
+
+// What Print returns: the same, and the length of its text.
+pub enum Printed {
+    Print(Totals, usize),
     Refused(Refusal),
 }
 
@@ -133,4 +140,56 @@ pub fn plan(
         Outcome::Refused(r) => Planned::Refused(r),
         Outcome::Made(_, t) => Planned::Plan(t),
     }
+}
+
+// Reads the text, plans its job, and writes the print. The working numbers are zero before.
+fn print_in(
+    s: &[u8],
+    w: &mut [u32],
+    table: &mut [u32],
+    nets: &mut [u32],
+    scores: &mut [u64],
+    answer: &mut [u8],
+    out: &mut [u8],
+) -> Printed
+    requires { ⌜ ((i : ℕ) → getD (now w) i 0 ≡ 0) ⌝ }
+    requires { ⌜ tableSize ≤ length (now table) ⌝ }
+    ensures { λ r. ⌜ PrintTold (now (s .entry)) (lentBy (length (now (w .entry))) (min (length (now (nets .entry))) (length (now (scores .entry)))) (length (now (answer .entry))) (Bytes (length (now (out .entry))))) (now (nets .entry)) (now (nets .exit)) (now (scores .entry)) (now (scores .exit)) (now (answer .entry)) (now (answer .exit)) (now (table .exit)) (now (out .entry)) (now (out .exit)) r ⌝ }
+    ensures { λ _. ⌜ length (now (w .exit)) ≡ length (now (w .entry)) ⌝ }
+{
+    match plan_in(
+        s,
+        w,
+        table,
+        nets,
+        scores,
+        answer,
+        PrintRoom::Bytes(out.len()),
+    ) {
+        Outcome::Refused(r) => Printed::Refused(r),
+        Outcome::Made(n, t) => {
+            let size = print::put_plan(out, n, nets, table, answer, t.vias, t.total, t.maximum);
+            Printed::Print(t, size)
+        }
+    }
+}
+
+// "Print does the same and also writes the text below."
+pub fn print(
+    text: &[u8],
+    work: &mut [u32],
+    nets: &mut [u32],
+    scores: &mut [u64],
+    answer: &mut [u8],
+    out: &mut [u8],
+) -> Printed
+    ensures { λ r. ⌜ record { returned = returnedOf (planOf r); length = sizeOf r; buffers = buffersOf (now (work .exit)) (now (nets .exit)) (now (scores .exit)) (now (answer .exit)); print = now (out .exit) } ≡ printCall (now (text .entry)) (buffersOf (now (work .entry)) (now (nets .entry)) (now (scores .entry)) (now (answer .entry))) (now (out .entry)) ⌝ }
+    ensures { λ _. ⌜ Beyond (now (nets .entry)) (now (nets .exit)) (now (scores .entry)) (now (scores .exit)) ⌝ }
+    ensures { λ r. ⌜ ((j : Job) (p : Place) → read (printLent (buffersOf (now (work .entry)) (now (nets .entry)) (now (scores .entry)) (now (answer .entry))) (now (out .entry))) (now (text .entry)) ≡ found j p → Met j (returnedOf (planOf r)) (buffersOf (now (work .exit)) (now (nets .exit)) (now (scores .exit)) (now (answer .exit)))) ⌝ }
+{
+    tracks::clear(work);
+    let mut table = [0u32; 24576];
+    let printed = print_in(text, work, &mut table, nets, scores, answer, out);
+    tracks::clear(work);
+    printed
 }
