@@ -6,6 +6,7 @@ ghost use lib.Seq.{slice};
 ghost use Rattle.model.specs.Text.{isDigit, valueFrom};
 ghost use Rattle.text.specs.Number.{digitRun, numberAt};
 ghost use Rattle.text.specs.Entries.{startsWith, commaAt, broken, pinEntryAt, edgeEntryAt};
+ghost use Rattle.text.specs.Refusals.{faultNumber, numberOf, lineOf};
 
 // The reading place: where the next line starts, and how many lines were read.
 pub struct Cursor {
@@ -201,4 +202,45 @@ pub fn edge_at(s: &[u8], at: usize) -> Entry
         return break_at(s, x, y, 1, q + 1);
     }
     Entry::Bad
+}
+
+// Document 01's number for a fault of a line.
+fn fault_number(f: Fault) -> usize
+    ensures { λ r. ⌜ r ≡ faultNumber f ⌝ }
+{
+    match f {
+        Fault::Form => 2,
+        Fault::Range => 3,
+        Fault::Turn => 4,
+        Fault::PinTwice => 5,
+        Fault::EdgeTwice => 6,
+        Fault::Ring => 7,
+        Fault::Apart => 8,
+    }
+}
+
+// Document 01's number for a refusal.
+pub fn number_of(r: Refusal) -> usize
+    ensures { λ n. ⌜ n ≡ numberOf r ⌝ }
+{
+    match r {
+        Refusal::TooLong => 1,
+        Refusal::Line(f, _) => fault_number(f),
+        Refusal::Working(_) => 9,
+        Refusal::Order(_) => 10,
+        Refusal::Short(_) => 11,
+    }
+}
+
+// The line of a refusal.
+pub fn line_of(r: Refusal) -> usize
+    ensures { λ l. ⌜ l ≡ lineOf r ⌝ }
+{
+    match r {
+        Refusal::TooLong => 0,
+        Refusal::Line(_, l) => l,
+        Refusal::Working(l) => l,
+        Refusal::Order(l) => l,
+        Refusal::Short(l) => l,
+    }
 }

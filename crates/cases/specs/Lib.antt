@@ -1,0 +1,3 @@
+-- What the program tells of a text.
+-- Assumes nothing.
+pub mod Told
