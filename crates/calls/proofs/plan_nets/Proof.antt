@@ -4,9 +4,9 @@ use mathlib.Core.Path.{_∙_}
 use native.Mathlib.Omega.{arith}
 use lib.ListN.{length}
 use borrow.Author.Needs.{needs}
-use Rattle.layerplan.proofs.Steps.{shaped, flat-room, small, few-nets, ready, still-room, few-demands, overflows-here, few-most, all-room, limit-told, nets-there, placing-starts}
-use Rattle.layerplan.proofs.plan_nets.Statement.{statement}
-use Rattle.layerplan.proofs.plan_nets.Tie as tie
+use Rattle.calls.proofs.Steps.{shaped, flat-room, small, few-nets, ready, still-room, few-demands, overflows-here, few-most, all-room, limit-told, nets-there, placing-starts}
+use Rattle.calls.proofs.plan_nets.Statement.{statement}
+use Rattle.calls.proofs.plan_nets.Tie as tie
 
 flat-capacities-requires : tie.Need-flat-capacities-requires
 flat-capacities-requires c κs =

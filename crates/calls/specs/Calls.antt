@@ -2,21 +2,27 @@
 -- Assumes nothing.
 use mathlib.Core.List.{List, [], _∷_}
 use mathlib.Core.Path.{_≡_}
-use Prim.Native.Nat.{ℕ}
+use Prim.Native.Nat.{ℕ, min}
+use native.Mathlib.Omega.{arith}
 use lib.ListN.{length, drop}
 use Rattle.model.specs.Calls.{Returned, Buffers}
 use Rattle.model.specs.Score.{Entry}
 use Rattle.text.specs.Refusals.{numberOf, lineOf}
-use Rattle.layerplan.specs.declared.Planned.{Planned}
-use Rattle.layerplan.specs.declared.Planned.the-variants.{Plan, Refused}
-use Rattle.layerplan.specs.declared.Printed.{Printed}
-use Rattle.layerplan.specs.declared.Printed.the-variants.{Print, Refused as NotPrinted}
+use Rattle.calls.specs.declared.Planned.{Planned}
+use Rattle.calls.specs.declared.Planned.the-variants.{Plan, Refused}
+use Rattle.calls.specs.declared.Printed.{Printed}
+use Rattle.calls.specs.declared.Printed.the-variants.{Print, Refused as NotPrinted}
 
 -- the order list, lent as two plain lists of which the shorter one counts
 abbrev pub entriesOf : List ℕ → List ℕ → List Entry
 entriesOf [] vs = []
 entriesOf (n ∷ ns) [] = []
 entriesOf (n ∷ ns) (v ∷ vs) = record { net = n; score = v } ∷ entriesOf ns vs
+
+pub entries-long : (ns vs : List ℕ) → length (entriesOf ns vs) ≡ min (length ns) (length vs)
+entries-long [] vs = omega arith
+entries-long (n ∷ ns) [] = omega arith
+entries-long (n ∷ ns) (v ∷ vs) = omega (arith, entries-long ns vs)
 
 -- of the longer list, what lies beyond the shorter one is as it was
 pub record Beyond (nets nets′ scores scores′ : List ℕ) : Type 0 where

@@ -5,9 +5,9 @@ use Prim.Native.Nat.{ℕ}
 use native.Mathlib.Omega.{arith}
 use lib.ListN.{length, replicate, length-replicate}
 use borrow.Author.Needs.{needs}
-use Rattle.layerplan.proofs.Calls.{zeros-at, print-told, print-met}
-use Rattle.layerplan.proofs.print.Statement.{statement}
-use Rattle.layerplan.proofs.print.Tie as tie
+use Rattle.calls.proofs.Calls.{zeros-at, print-told, print-met}
+use Rattle.calls.proofs.print.Statement.{statement}
+use Rattle.calls.proofs.print.Tie as tie
 
 returns : tie.Need-returns
 returns c =

@@ -5,10 +5,10 @@ use Prim.Native.Nat.{ℕ}
 use native.Mathlib.Omega.{arith}
 use lib.ListN.{length, replicate, length-replicate}
 use borrow.Author.Needs.{needs}
-use Rattle.layerplan.specs.declared.Planned.the-variants.{Plan, Refused}
-use Rattle.layerplan.proofs.Calls.{zeros-at, plan-refused, plan-made, plan-met}
-use Rattle.layerplan.proofs.plan.Statement.{statement}
-use Rattle.layerplan.proofs.plan.Tie as tie
+use Rattle.calls.specs.declared.Planned.the-variants.{Plan, Refused}
+use Rattle.calls.proofs.Calls.{zeros-at, plan-refused, plan-made, plan-met}
+use Rattle.calls.proofs.plan.Statement.{statement}
+use Rattle.calls.proofs.plan.Tie as tie
 
 returns : tie.Need-returns
 returns c =

@@ -6,10 +6,10 @@ use lib.ListN.{length}
 use borrow.Author.Needs.{needs}
 use Rattle.reader.specs.Whole.{lentBy}
 use Rattle.reader.specs.declared.PrintRoom.the-variants.{Bytes}
-use Rattle.layerplan.specs.Steps.{PlanTold}
-use Rattle.layerplan.proofs.Calls.{nets-there, rows-there, text-fits, print-found}
-use Rattle.layerplan.proofs.print_in.Statement.{statement}
-use Rattle.layerplan.proofs.print_in.Tie as tie
+use Rattle.calls.specs.Steps.{PlanTold}
+use Rattle.calls.proofs.Calls.{nets-there, rows-there, text-fits, print-found}
+use Rattle.calls.proofs.print_in.Statement.{statement}
+use Rattle.calls.proofs.print_in.Tie as tie
 
 put-plan-requires : tie.Need-put-plan-requires
 put-plan-requires c κs =

@@ -15,8 +15,8 @@ ghost use Rattle.model.specs.Job.{Job};
 ghost use Rattle.model.specs.Read.{Lent, Place, found, read};
 ghost use Rattle.reader.specs.Whole.{lentBy};
 ghost use Rattle.reader.specs.declared.PrintRoom.the-variants.{Bytes};
-ghost use Rattle.layerplan.specs.Calls.{buffersOf, Beyond, returnedOf, planOf, sizeOf};
-ghost use Rattle.layerplan.specs.Steps.{Given, GivenSome, PlanMade, PlanTold, PrintTold};
+ghost use Rattle.calls.specs.Calls.{buffersOf, Beyond, returnedOf, planOf, sizeOf};
+ghost use Rattle.calls.specs.Steps.{Given, GivenSome, PlanMade, PlanTold, PrintTold};
 
 // Total vias, total and maximum of the plan.
 pub struct Totals {

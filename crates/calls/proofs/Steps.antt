@@ -35,7 +35,7 @@ use Rattle.tracks.specs.FlatPlan.{FlatCapacities, FlatDemands, NoLoads, Overflo
 use Rattle.tracks.specs.Places.{SmallCapacities, small-capacities}
 use Rattle.tracks.specs.declared.Flat.{Flat}
 use Rattle.turn.specs.Turn.{of-job}
-use Rattle.layerplan.specs.Steps.{Given}
+use Rattle.calls.specs.Steps.{Given}
 
 module _ (s : List ℕ) (h : Head) (w₀ table : List ℕ) (size : ℕ) (lent : Lent) (j : Job) (given : Given s h w₀ table size lent j) where
   abbrev g : Shape

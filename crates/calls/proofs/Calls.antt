@@ -27,15 +27,15 @@ use Rattle.theory.specs.links.Meets.{order-long, plan-call, print-call, plan-to
 use Rattle.theory.specs.links.Reading.{Accepted, accepted}
 use Rattle.theory.specs.links.Room.{plan-long}
 use Rattle.theory.specs.links.Stretches.{cut-whole}
-use Rattle.layerplan.specs.Calls.{entriesOf, Beyond, buffersOf, returnedOf, planOf, sizeOf}
-use Rattle.layerplan.specs.Steps.{PlanMade, PlanFound, NoPlan, PlanTold, PrintFound, PrintTold}
-use Rattle.layerplan.specs.declared.Outcome.{Outcome}
-use Rattle.layerplan.specs.declared.Outcome.the-variants.{Made, Refused}
-use Rattle.layerplan.specs.declared.Planned.{Planned}
-use Rattle.layerplan.specs.declared.Planned.the-variants.{Plan as PlanOf, Refused as RefusedBy}
-use Rattle.layerplan.specs.declared.Printed.{Printed}
-use Rattle.layerplan.specs.declared.Printed.the-variants.{Print, Refused as NotPrinted}
-use Rattle.layerplan.specs.declared.Totals.{Totals}
+use Rattle.calls.specs.Calls.{entriesOf, entries-long, Beyond, buffersOf, returnedOf, planOf, sizeOf}
+use Rattle.calls.specs.Steps.{PlanMade, PlanFound, NoPlan, PlanTold, PrintFound, PrintTold}
+use Rattle.calls.specs.declared.Outcome.{Outcome}
+use Rattle.calls.specs.declared.Outcome.the-variants.{Made, Refused}
+use Rattle.calls.specs.declared.Planned.{Planned}
+use Rattle.calls.specs.declared.Planned.the-variants.{Plan as PlanOf, Refused as RefusedBy}
+use Rattle.calls.specs.declared.Printed.{Printed}
+use Rattle.calls.specs.declared.Printed.the-variants.{Print, Refused as NotPrinted}
+use Rattle.calls.specs.declared.Totals.{Totals}
 
 -- ---- the working numbers that are cleared
 
@@ -48,11 +48,6 @@ pub zeros-at : (w : List ℕ) (n : ℕ) → w ≡ replicate n 0 → (i : ℕ) �
 zeros-at w n e i = ap (λ (l : List ℕ). getD l i 0) e ∙ zeros n i
 
 -- ---- the order list as two lists
-
-pub entries-long : (ns vs : List ℕ) → length (entriesOf ns vs) ≡ min (length ns) (length vs)
-entries-long [] vs = omega arith
-entries-long (n ∷ ns) [] = omega arith
-entries-long (n ∷ ns) (v ∷ vs) = omega (arith, entries-long ns vs)
 
 entries-over : (es : List Entry) (ns vs : List ℕ) → length es ≤ length ns → length es ≤ length vs
     → entriesOf (overwrite (map (λ (e : Entry). e .net) es) ns) (overwrite (map (λ (e : Entry). e .score) es) vs) ≡ overwrite es (entriesOf ns vs)

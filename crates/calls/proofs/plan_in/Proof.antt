@@ -7,9 +7,9 @@ use lib.ListN.{length}
 use borrow.Author.Needs.{needs}
 use Rattle.model.specs.Read.{read}
 use Rattle.reader.specs.Whole.{lentBy, JobTold}
-use Rattle.layerplan.proofs.Steps.{found-job, job-given, order-room}
-use Rattle.layerplan.proofs.plan_in.Statement.{statement}
-use Rattle.layerplan.proofs.plan_in.Tie as tie
+use Rattle.calls.proofs.Steps.{found-job, job-given, order-room}
+use Rattle.calls.proofs.plan_in.Statement.{statement}
+use Rattle.calls.proofs.plan_in.Tie as tie
 
 plan-nets-requires : tie.Need-plan-nets-requires
 plan-nets-requires c κs =

@@ -17,11 +17,11 @@ use Rattle.net.specs.Checked.{Checked}
 use Rattle.order.specs.Ordered.{Ordered}
 use Rattle.placing.specs.Turns.{AllPlaced}
 use Rattle.theory.specs.links.Reading.{Accepted}
-use Rattle.layerplan.specs.declared.Outcome.{Outcome}
-use Rattle.layerplan.specs.declared.Outcome.the-variants.{Made, Refused}
-use Rattle.layerplan.specs.declared.Printed.{Printed}
-use Rattle.layerplan.specs.declared.Printed.the-variants.{Print, Refused as NotPrinted}
-use Rattle.layerplan.specs.declared.Totals.{Totals}
+use Rattle.calls.specs.declared.Outcome.{Outcome}
+use Rattle.calls.specs.declared.Outcome.the-variants.{Made, Refused}
+use Rattle.calls.specs.declared.Printed.{Printed}
+use Rattle.calls.specs.declared.Printed.the-variants.{Print, Refused as NotPrinted}
+use Rattle.calls.specs.declared.Totals.{Totals}
 
 -- the job j is accepted and its text checked; the answer list has this length
 pub record Given (s : List ℕ) (h : Head) (w table : List ℕ) (size : ℕ) (lent : Lent) (j : Job) : Type 0 where
