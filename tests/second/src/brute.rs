@@ -1,0 +1,196 @@
+//! Demand 3 and the tie rule in their own words, for tiny jobs: all layerings of all nets are looked at one by one.
+//! Nothing here uses the planner; what it takes is the job, the order list, the answer list and the returned numbers.
+
+use crate::calls::Returned;
+use crate::job::{Job, Net};
+use crate::plan::Entry;
+use std::collections::BTreeSet;
+
+/// The number of layerings of a job, if it is at most `most`.
+pub fn layerings(job: &Job, most: u64) -> Option<u64> {
+    let count = (job.layers as u64).checked_pow(job.entries() as u32)?;
+    Some(count).filter(|count| *count <= most)
+}
+
+/// All lists of this length with entries from 1 to K, in dictionary order.
+fn choices(length: usize, layers: usize) -> impl Iterator<Item = Vec<u8>> {
+    let count = (layers as u64).pow(length as u32);
+    (0..count).map(move |mut number| {
+        let mut list = vec![1; length];
+        for entry in list.iter_mut().rev() {
+            *entry += (number % layers as u64) as u8;
+            number /= layers as u64;
+        }
+        list
+    })
+}
+
+/// The overflow of every layer of every edge, if each entry of the job's `edges` lines, in job order, is on the layer
+/// named here; 0 names none. K numbers for each edge.
+fn overflows(job: &Job, layering: &[u8]) -> Vec<u64> {
+    let mut nets_there = vec![0u64; job.layers * job.grid.edges()];
+    for (edge, layer) in job.nets.iter().flat_map(|net| &net.edges).zip(layering) {
+        if *layer > 0 {
+            nets_there[edge * job.layers + usize::from(*layer) - 1] += 1;
+        }
+    }
+    for edge in 0..job.grid.edges() {
+        for layer in 0..job.layers {
+            let there = &mut nets_there[edge * job.layers + layer];
+            *there = there.saturating_sub(job.capacity[layer][edge]);
+        }
+    }
+    nets_there
+}
+
+/// The vias of one net under a choice: tile by tile, highest minus lowest.
+fn vias(job: &Job, net: &Net, choice: &[u8]) -> u64 {
+    let mut sum = 0;
+    for tile in 0..job.grid.tiles() {
+        let pins = net.pins.iter().filter(|pin| pin.tile == tile).map(|pin| pin.layer);
+        let meets = |edge: &usize| job.grid.ends(*edge).contains(&tile);
+        let edges = net.edges.iter().zip(choice).filter(|(edge, _)| meets(edge)).map(|(_, layer)| *layer);
+        let set: Vec<u8> = pins.chain(edges).collect();
+        if let (Some(highest), Some(lowest)) = (set.iter().max(), set.iter().min()) {
+            sum += u64::from(highest - lowest);
+        }
+    }
+    sum
+}
+
+/// The places on the `edges` line in walk order. Breadth first means: by the number of steps from the lowest-numbered
+/// tile, and of equally far tiles the one whose way there comes first, east before north before west before south.
+fn walk_order(job: &Job, net: &Net) -> Vec<usize> {
+    fn go(
+        job: &Job,
+        net: &Net,
+        tile: usize,
+        way_there: &[usize],
+        back: Option<usize>,
+        found: &mut Vec<(Vec<usize>, usize)>,
+    ) {
+        for way in 0..4 {
+            let Some((far, edge)) = job.grid.way(tile, way) else { continue };
+            let Some(place) = net.edges.iter().position(|other| *other == edge) else { continue };
+            if back != Some(edge) {
+                let there = [way_there, &[way]].concat();
+                found.push((there.clone(), place));
+                go(job, net, far, &there, Some(edge), found);
+            }
+        }
+    }
+    let mut found = Vec::new();
+    let first = net.edges.iter().flat_map(|edge| job.grid.ends(*edge)).min();
+    if let Some(tile) = first {
+        go(job, net, tile, &[], None, &mut found);
+    }
+    found.sort_by_key(|(way_there, _)| (way_there.len(), way_there.clone()));
+    found.into_iter().map(|(_, place)| place).collect()
+}
+
+/// Checks the plan of an accepted job against demand 3, and against the tie rule. Returns how many layerings there were.
+pub fn check(job: &Job, order: &[Entry], answer: &[u8], returned: &Returned) -> Result<u64, String> {
+    let claim = |holds: bool, what: &str| if holds { Ok(()) } else { Err(what.to_string()) };
+    let stack = job.layers as u8;
+    let nets = job.nets.len();
+
+    // the plan is a layering: one layer from 1 to K for each edge of each net
+    claim(answer.len() == job.entries(), "the answer list has one byte for each entry")?;
+    claim(answer.iter().all(|layer| (1..=stack).contains(layer)), "the answer list holds layers")?;
+    let start = |net: usize| job.nets[..net].iter().map(|net| net.edges.len()).sum::<usize>();
+    let part = |net: usize| start(net)..start(net) + job.nets[net].edges.len();
+
+    // the order list: each net once, with its score; a net goes before another with a higher score, or an equal one
+    // and a lower number
+    claim(order.len() == nets, "the order list has one entry for each net")?;
+    let users = |edge: &usize| job.nets.iter().filter(|net| net.edges.contains(edge)).count() as u64;
+    let tracks = |edge: &usize| job.capacity.iter().map(|layer| layer[*edge]).sum::<u64>();
+    let score = |net: &Net| {
+        let d: u64 = net.edges.iter().map(users).sum();
+        let c: u64 = net.edges.iter().map(tracks).sum();
+        let (l, p) = (net.edges.len() as u64, net.pins.len() as u64);
+        let c = if c == 0 { 1 } else { c };
+        let l = if l == 0 { 1 } else { l };
+        1000 * job.alpha / l + 1000 * job.beta * p + 1000 * job.gamma * d / c
+    };
+    let scores: Vec<u64> = job.nets.iter().map(score).collect();
+    for net in 0..nets {
+        let goes_before =
+            |other: &usize| scores[*other] > scores[net] || (scores[*other] == scores[net] && *other < net);
+        let turn = (0..nets).filter(goes_before).count();
+        claim(order[turn] == Entry { net: net as u32 + 1, score: scores[net] }, "the order is that of the scores")?;
+    }
+    let by_turn: Vec<usize> = order.iter().map(|entry| entry.net as usize - 1).collect();
+
+    // the flat plan
+    let flat: Vec<u64> = (0..job.grid.edges()).map(|edge| users(&edge).saturating_sub(tracks(&edge))).collect();
+    let total: u64 = flat.iter().sum();
+    let mo = flat.iter().copied().max().unwrap_or(0);
+    let maximum = mo / job.layers as u64 + u64::from(mo % job.layers as u64 > 0);
+
+    // the plan has just that total and just that rounded-up maximum, and these and its vias are returned
+    let of_plan = overflows(job, answer);
+    claim(of_plan.iter().sum::<u64>() == total, "the plan's total is that of the flat plan")?;
+    claim(of_plan.iter().copied().max().unwrap_or(0) == maximum, "the plan's maximum is MO / K rounded up")?;
+    let all_vias: u64 = (0..nets).map(|net| vias(job, &job.nets[net], &answer[part(net)])).sum();
+    claim(returned.vias == all_vias, "the returned vias are the plan's")?;
+    claim((returned.total, returned.maximum) == (total, maximum), "the returned overflow is the plan's")?;
+
+    // no layering is below; and the choices that are to be considered at each turn
+    let mut considered: Vec<BTreeSet<Vec<u8>>> = vec![BTreeSet::new(); nets];
+    let mut count = 0;
+    for layering in choices(job.entries(), job.layers) {
+        count += 1;
+        let overflows = overflows(job, &layering);
+        let (sum, highest) = (overflows.iter().sum::<u64>(), overflows.iter().copied().max().unwrap_or(0));
+        claim(sum >= total, "no layering has a lower total")?;
+        claim(highest >= maximum, "no layering has a lower maximum")?;
+        if sum == total && highest <= maximum {
+            for (turn, net) in by_turn.iter().enumerate() {
+                considered[turn].insert(layering[part(*net)].to_vec());
+                if layering[part(*net)] != answer[part(*net)] {
+                    break; // for the nets after this one, an earlier net is not as in the plan
+                }
+            }
+        }
+    }
+
+    // each net at its turn
+    for (turn, net) in by_turn.iter().enumerate() {
+        let (edges, chosen) = (&job.nets[*net].edges, &answer[part(*net)]);
+        let cost = |choice: &[u8]| vias(job, &job.nets[*net], choice);
+        claim(considered[turn].contains(chosen), "the plan's choice is to be considered")?;
+        let none_cheaper = considered[turn].iter().all(|choice| cost(choice) >= cost(chosen));
+        claim(none_cheaper, "no choice that is to be considered has fewer vias")?;
+
+        // the legal choices: earlier nets as in the plan, this one put on top, later ones not there yet
+        let mut earlier = vec![0; answer.len()];
+        for net in &by_turn[..turn] {
+            earlier[part(*net)].copy_from_slice(&answer[part(*net)]);
+        }
+        let mut legal: Vec<Vec<u8>> = Vec::new();
+        for choice in choices(edges.len(), job.layers) {
+            let mut with = earlier.clone();
+            with[part(*net)].copy_from_slice(&choice);
+            let overflows = overflows(job, &with);
+            let layer_fits = |(edge, layer): (&usize, &u8)| {
+                let of_edge = &overflows[edge * job.layers..(edge + 1) * job.layers];
+                of_edge[usize::from(*layer) - 1] <= maximum && of_edge.iter().sum::<u64>() <= flat[*edge]
+            };
+            if edges.iter().zip(&choice).all(layer_fits) {
+                legal.push(choice);
+            }
+        }
+        let as_legal = legal.iter().cloned().collect::<BTreeSet<_>>() == considered[turn];
+        claim(as_legal, "the legal choices are those to be considered")?;
+
+        // of the legal choices with the fewest vias, the first in walk order
+        let walk = walk_order(job, &job.nets[*net]);
+        claim(walk.len() == edges.len(), "the walk goes along every edge")?;
+        let fewest = legal.iter().map(|choice| cost(choice)).min();
+        let ties = legal.iter().filter(|choice| Some(cost(choice)) == fewest);
+        let first = ties.min_by_key(|choice| walk.iter().map(|place| choice[*place]).collect::<Vec<u8>>());
+        claim(first.map(Vec::as_slice) == Some(chosen), "of the cheapest choices, the first in walk order")?;
+    }
+    Ok(count)
+}

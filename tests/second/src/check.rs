@@ -1,0 +1,204 @@
+//! What can be checked of a plan of any size, in other words and with another method than the planner's: the overflow
+//! numbers, the order, that each layer was legal at its net's turn, and for each tile of each net, by spans of layers
+//! instead of combinations, that no choice has fewer vias and that none with as few comes before it in walk order.
+
+use crate::job::{Job, Net};
+use crate::plan::{vias, Plan};
+
+fn claim(holds: bool, what: impl Fn() -> String) -> Result<(), String> {
+    if holds {
+        Ok(())
+    } else {
+        Err(what())
+    }
+}
+
+/// The nets put so far, and what they leave.
+struct Metal<'a> {
+    job: &'a Job,
+    /// o(e) of the flat plan.
+    flat: Vec<u64>,
+    /// MO / K rounded up.
+    limit: u64,
+    /// By edge, then layer from 0.
+    load: Vec<Vec<u64>>,
+}
+
+impl Metal<'_> {
+    fn overflow(&self, edge: usize, layer: usize) -> u64 {
+        self.load[edge][layer].saturating_sub(self.job.capacity[layer][edge])
+    }
+
+    fn sum(&self, edge: usize) -> u64 {
+        (0..self.job.layers).map(|layer| self.overflow(edge, layer)).sum()
+    }
+
+    /// Whether one more net may use this layer (from 1) of the edge: there is a track, or one more overflow is allowed.
+    fn allows(&self, edge: usize, layer: u8) -> bool {
+        let l = usize::from(layer) - 1;
+        let track = self.load[edge][l] < self.job.capacity[l][edge];
+        track || (self.overflow(edge, l) < self.limit && self.sum(edge) < self.flat[edge])
+    }
+}
+
+/// A tile of a net with the edge above it.
+struct Place {
+    edge: Option<usize>,
+    /// The pins' layers, and the layer that the plan gives to the edge above.
+    fixed: Vec<u8>,
+    layer: u8,
+    branches: Vec<usize>,
+    /// By layer of the edge above: the fewest vias here and below, where that layer is allowed.
+    fewest: [Option<u64>; 9],
+}
+
+/// The net's tiles, distance by distance from the lowest-numbered one.
+fn places(job: &Job, net: &Net, layers: &[u8]) -> Vec<Place> {
+    let grid = job.grid;
+    let mut given = vec![0; grid.edges()];
+    for (edge, layer) in net.edges.iter().zip(layers) {
+        given[*edge] = *layer;
+    }
+    let mut pins: Vec<Vec<u8>> = vec![Vec::new(); grid.tiles()];
+    for pin in &net.pins {
+        pins[pin.tile].push(pin.layer);
+    }
+    let tiles = net.tiles(grid);
+    let mut places: Vec<Place> = Vec::new();
+    let mut level = vec![(*tiles.first().unwrap(), None, 0)];
+    while !level.is_empty() {
+        let mut next = Vec::new();
+        for (tile, edge, above) in level {
+            let place = places.len();
+            let fixed = std::mem::take(&mut pins[tile]);
+            let layer = edge.map_or(0, |edge: usize| std::mem::take(&mut given[edge]));
+            places.push(Place { edge, fixed, layer, branches: Vec::new(), fewest: [None; 9] });
+            if place > 0 {
+                places[above].branches.push(place);
+            }
+            // the edge above is no longer marked in `given`: the way back is left out
+            for (far, edge) in (0..4).filter_map(|way| grid.way(tile, way)) {
+                if given[edge] > 0 {
+                    next.push((far, Some(edge), place));
+                }
+            }
+        }
+        level = next;
+    }
+    places
+}
+
+/// The fewest vias of a tile and all below these branches, if its other layers are `fixed`: over all spans from a lowest
+/// to a highest layer that hold the fixed ones, each branch takes its cheapest layer inside the span. A span that is
+/// wider than its layers need only costs more, so this is the minimum over all combinations.
+fn fewest(places: &[Place], fixed: &[u8], branches: &[usize], layers: u8) -> Option<u64> {
+    let mut fewest: Option<u64> = None;
+    for low in 1..=layers {
+        for high in low..=layers {
+            if fixed.iter().any(|layer| *layer < low || *layer > high) {
+                continue;
+            }
+            let cheapest = |branch: &usize| (low..=high).filter_map(|l| places[*branch].fewest[usize::from(l)]).min();
+            let Some(below) = branches.iter().map(cheapest).sum::<Option<u64>>() else { continue };
+            let vias = u64::from(high - low) + below;
+            fewest = Some(fewest.map_or(vias, |least| least.min(vias)));
+        }
+    }
+    fewest
+}
+
+/// One net at its turn: the layers are legal, no legal choice has fewer vias, and none with as few comes first.
+fn check_net(metal: &Metal, net: &Net, layers: &[u8]) -> Result<(), String> {
+    let stack = metal.job.layers as u8;
+    for (edge, layer) in net.edges.iter().zip(layers) {
+        claim((1..=stack).contains(layer), || format!("edge {edge}: no layer {layer}"))?;
+        claim(metal.allows(*edge, *layer), || format!("edge {edge}: layer {layer} is not legal"))?;
+    }
+    let mut places = places(metal.job, net, layers);
+    claim(places.len() == net.edges.len() + 1, || "the walk misses an edge".to_string())?;
+    for place in (1..places.len()).rev() {
+        let edge = places[place].edge.unwrap();
+        for layer in (1..=stack).filter(|layer| metal.allows(edge, *layer)) {
+            let mut fixed = places[place].fixed.clone();
+            fixed.push(layer);
+            places[place].fewest[usize::from(layer)] = fewest(&places, &fixed, &places[place].branches, stack);
+        }
+    }
+    let least = fewest(&places, &places[0].fixed, &places[0].branches, stack);
+    let counted = vias(metal.job.grid, net, layers);
+    claim(least == Some(counted), || format!("{counted} vias where {least:?} are the fewest"))?;
+
+    for (at, place) in places.iter().enumerate() {
+        let mut fixed = place.fixed.clone();
+        if at > 0 {
+            fixed.push(place.layer);
+        }
+        let least = fewest(&places, &fixed, &place.branches, stack).expect("it was found before");
+        let mut below = 0;
+        for (number, branch) in place.branches.iter().enumerate() {
+            let (layer, later) = (places[*branch].layer, &place.branches[number + 1..]);
+            let with = |layer: u8| {
+                let here = places[*branch].fewest[usize::from(layer)]?;
+                let mut fixed = fixed.clone();
+                fixed.push(layer);
+                Some(below + here + fewest(&places, &fixed, later, stack)?)
+            };
+            let first = (1..=stack).find(|layer| with(*layer) == Some(least));
+            let edge = places[*branch].edge.unwrap();
+            claim(first == Some(layer), || format!("edge {edge}: layer {layer} where {first:?} comes first"))?;
+            below += places[*branch].fewest[usize::from(layer)].unwrap();
+            fixed.push(layer);
+        }
+    }
+    Ok(())
+}
+
+/// All that is checked of a plan of any size.
+pub fn check(job: &Job, plan: &Plan) -> Result<(), String> {
+    let edges = job.grid.edges();
+    let mut demand = vec![0; edges];
+    job.nets.iter().flat_map(|net| &net.edges).for_each(|edge| demand[*edge] += 1u64);
+    let tracks: Vec<u64> = (0..edges).map(|e| job.capacity.iter().map(|layer| layer[e]).sum()).collect();
+    let flat: Vec<u64> = (0..edges).map(|e| demand[e].max(tracks[e]) - tracks[e]).collect();
+    let most = flat.iter().copied().max().unwrap_or(0);
+    let limit = (most + job.layers as u64 - 1) / job.layers as u64;
+    let mut metal = Metal { job, flat, limit, load: vec![vec![0; job.layers]; edges] };
+
+    claim(plan.order.len() == job.nets.len() && plan.layers.len() == job.nets.len(), || "lengths".to_string())?;
+    let mut placed = vec![false; job.nets.len()];
+    for (turn, entry) in plan.order.iter().enumerate() {
+        let index = entry.net as usize - 1;
+        let net = &job.nets[index];
+        claim(!std::mem::replace(&mut placed[index], true), || format!("net {} is twice in the order", index + 1))?;
+        let over = |a: u64, b: u64| a.checked_div(b).unwrap_or(a);
+        let sum = |of: &[u64]| net.edges.iter().map(|e| of[*e]).sum::<u64>();
+        let score = over(1000 * job.alpha, net.edges.len() as u64)
+            + 1000 * job.beta * net.pins.len() as u64
+            + over(1000 * job.gamma * sum(&demand), sum(&tracks));
+        claim(entry.score == score, || format!("net {} scores {score}, not {}", entry.net, entry.score))?;
+        if let Some(before) = turn.checked_sub(1).map(|turn| plan.order[turn]) {
+            let in_order = before.score > score || (before.score == score && before.net < entry.net);
+            claim(in_order, || format!("net {} before net {}", before.net, entry.net))?;
+        }
+        let layers = &plan.layers[index];
+        claim(layers.len() == net.edges.len(), || format!("net {}: {} layers", entry.net, layers.len()))?;
+        check_net(&metal, net, layers).map_err(|fault| format!("net {}: {fault}", entry.net))?;
+        let counted = vias(job.grid, net, layers);
+        claim(plan.vias[index] == counted, || format!("net {}: {counted} vias", entry.net))?;
+        for (edge, layer) in net.edges.iter().zip(layers) {
+            metal.load[*edge][usize::from(*layer) - 1] += 1;
+        }
+    }
+
+    // each edge has just its flat overflow, and the maximum is just MO / K rounded up
+    for edge in 0..edges {
+        let sum = metal.sum(edge);
+        claim(sum == metal.flat[edge], || format!("edge {edge}: overflow {sum}, flat {}", metal.flat[edge]))?;
+    }
+    let highest =
+        (0..edges).flat_map(|e| (0..job.layers).map(move |l| (e, l))).map(|(e, l)| metal.overflow(e, l)).max();
+    claim(highest.unwrap_or(0) == limit, || format!("maximum {highest:?}, limit {limit}"))?;
+    claim(plan.total_overflow == metal.flat.iter().sum::<u64>(), || "total overflow".to_string())?;
+    claim(plan.max_overflow == limit, || "maximum overflow".to_string())?;
+    claim(plan.total_vias == plan.vias.iter().sum::<u64>(), || "total vias".to_string())
+}

@@ -1,0 +1,692 @@
+//! Jobs, damaged texts and lent lengths, each drawn from a seed alone.
+
+use crate::job::{Grid, Job, Lengths, Net, Pin, Refusal, TEXT_LIMIT};
+use std::collections::BTreeSet;
+
+/// The generator of random numbers (splitmix64).
+pub struct Rng(u64);
+
+impl Rng {
+    pub fn new(seed: u64) -> Rng {
+        Rng(seed)
+    }
+
+    pub fn word(&mut self) -> u64 {
+        self.0 = self.0.wrapping_add(0x9e37_79b9_7f4a_7c15);
+        let mut z = self.0;
+        z = (z ^ (z >> 30)).wrapping_mul(0xbf58_476d_1ce4_e5b9);
+        z = (z ^ (z >> 27)).wrapping_mul(0x94d0_49bb_1331_11eb);
+        z ^ (z >> 31)
+    }
+
+    /// From 0 to `count` - 1.
+    pub fn below(&mut self, count: usize) -> usize {
+        (self.word() % count as u64) as usize
+    }
+
+    /// From `low` to `high`, both included.
+    pub fn range(&mut self, low: usize, high: usize) -> usize {
+        low + self.below(high - low + 1)
+    }
+
+    /// True in `part` of `whole` cases.
+    pub fn chance(&mut self, part: usize, whole: usize) -> bool {
+        self.below(whole) < part
+    }
+
+    pub fn pick<T: Copy>(&mut self, list: &[T]) -> T {
+        list[self.below(list.len())]
+    }
+
+    fn shuffle<T>(&mut self, list: &mut [T]) {
+        for place in (1..list.len()).rev() {
+            list.swap(place, self.below(place + 1));
+        }
+    }
+}
+
+/// The shapes of jobs.
+#[derive(Clone, Copy, PartialEq, Eq, Debug)]
+pub enum Kind {
+    /// Few enough layerings to look at all of them.
+    Tiny,
+    /// More nets than tracks.
+    Congested,
+    /// More tracks than nets.
+    Plenty,
+    /// Nets with many three-branch tiles.
+    Branchy,
+    /// One row or column, one tile, no nets, nets without edges.
+    Thin,
+    /// Few nets that cover much of a large grid.
+    Giant,
+    /// Thousands of short nets.
+    Short,
+    /// A text of exactly as many bytes as are read.
+    Full,
+}
+
+pub const KINDS: [(&str, Kind); 8] = [
+    ("tiny", Kind::Tiny),
+    ("congested", Kind::Congested),
+    ("plenty", Kind::Plenty),
+    ("branchy", Kind::Branchy),
+    ("thin", Kind::Thin),
+    ("giant", Kind::Giant),
+    ("short", Kind::Short),
+    ("full", Kind::Full),
+];
+
+/// How a tree of edges grows.
+#[derive(Clone, Copy)]
+enum Growth {
+    /// On from the tile reached last.
+    Snake,
+    /// All ways out of the earliest tile first.
+    Bush,
+    /// From any tile.
+    Any,
+    /// A snake, then teeth on both its sides.
+    Comb,
+    /// A trunk, rows on both its sides and teeth on them, over the whole grid.
+    Fishbone,
+}
+
+/// A tree with at most this many edges, on a random place in the grid.
+fn tree(rng: &mut Rng, grid: Grid, most: usize, growth: Growth) -> Vec<usize> {
+    if let Growth::Fishbone = growth {
+        return fishbone(rng, grid);
+    }
+    let mut start = rng.below(grid.tiles());
+    if let (Growth::Bush, 3.., 3..) = (growth, grid.width, grid.height) {
+        // a tile with four ways out
+        start = rng.range(1, grid.height - 2) * grid.width + rng.range(1, grid.width - 2);
+    }
+    let mut inside = BTreeSet::from([start]);
+    let mut open = vec![start];
+    let mut edges = Vec::new();
+    let spine = if let Growth::Comb = growth { most.div_ceil(3) } else { most };
+    while edges.len() < most && !open.is_empty() {
+        let on_spine = edges.len() < spine;
+        let place = match growth {
+            Growth::Snake => open.len() - 1,
+            Growth::Bush => 0,
+            Growth::Comb if on_spine => open.len() - 1,
+            _ => rng.below(open.len()),
+        };
+        let ways = (0..4).filter_map(|way| grid.way(open[place], way));
+        let free: Vec<(usize, usize)> = ways.filter(|(tile, _)| !inside.contains(tile)).collect();
+        if free.is_empty() {
+            open.remove(place);
+            continue;
+        }
+        let (tile, edge) = rng.pick(&free);
+        inside.insert(tile);
+        edges.push(edge);
+        if on_spine {
+            open.push(tile);
+        }
+    }
+    edges
+}
+
+/// All tiles: a column as trunk, every third row, and from these rows teeth to the rows beside them.
+fn fishbone(rng: &mut Rng, grid: Grid) -> Vec<usize> {
+    let trunk = rng.below(grid.width);
+    let mut edges = Vec::new();
+    for edge in 0..grid.edges() {
+        let (tile, east) = grid.named(edge);
+        let (x, y) = (tile % grid.width, tile / grid.width);
+        let wanted = match east {
+            true => y % 3 == 1,
+            false => x == trunk || y % 3 != 2,
+        };
+        if wanted {
+            edges.push(edge);
+        }
+    }
+    edges
+}
+
+/// Up to `most` pins in these tiles, no two alike.
+fn pins(rng: &mut Rng, tiles: &[usize], layers: usize, most: usize) -> Vec<Pin> {
+    let style = rng.below(4);
+    let one = rng.range(1, layers);
+    let mut pins = Vec::new();
+    for _ in 0..rng.range(1, most) {
+        let layer = match style {
+            0 => 1,
+            1 => one,
+            2 => rng.pick(&[1, layers]),
+            _ => rng.range(1, layers),
+        };
+        let pin = Pin { tile: rng.pick(tiles), layer: layer as u8 };
+        if !pins.contains(&pin) {
+            pins.push(pin);
+        }
+    }
+    pins
+}
+
+fn net(rng: &mut Rng, grid: Grid, layers: usize, edges: usize, growth: Growth) -> Net {
+    let mut edges = tree(rng, grid, edges, growth);
+    rng.shuffle(&mut edges);
+    let mut net = Net { pins: Vec::new(), edges };
+    let tiles: Vec<usize> = net.tiles(grid).into_iter().collect();
+    let tiles = if tiles.is_empty() { vec![rng.below(grid.tiles())] } else { tiles };
+    let most = if rng.chance(1, 3) { tiles.len() + 3 } else { 4.min(tiles.len() + 2) };
+    net.pins = pins(rng, &tiles, layers, most);
+    net
+}
+
+/// A valid job of this kind.
+pub fn job(rng: &mut Rng, kind: Kind) -> Job {
+    let side = |rng: &mut Rng, low: usize, high: usize| match rng.below(8) {
+        0 => low,
+        1 => high,
+        _ => rng.range(low, high),
+    };
+    let crosses = kind == Kind::Tiny && rng.chance(1, 4); // tiny nets with three-branch tiles
+    let (low, high) = match kind {
+        Kind::Tiny if crosses => (3, 4),
+        Kind::Tiny => (1, 4),
+        Kind::Congested | Kind::Plenty => (2, 16),
+        Kind::Branchy => (3, 24),
+        Kind::Thin => (1, 64),
+        Kind::Giant => (16, 64),
+        Kind::Short => (2, 64),
+        Kind::Full => (40, 64),
+    };
+    let (mut width, mut height) = (side(rng, low, high), side(rng, low, high));
+    if kind == Kind::Thin {
+        match rng.below(4) {
+            0 => (width, height) = (1, 1),
+            1 => width = 1,
+            2 => height = 1,
+            _ => (width, height) = (side(rng, 1, 3), side(rng, 1, 3)),
+        }
+    }
+    let grid = Grid { width, height };
+    let layers = side(rng, 2, 8);
+    let weight = |rng: &mut Rng| match rng.below(6) {
+        0 | 1 => 0,
+        2 => 1,
+        3 => 255,
+        _ => rng.below(256) as u64,
+    };
+    let (alpha, beta, gamma) = (weight(rng), weight(rng), weight(rng));
+
+    // the track counts: up to `tracks`, a part of them 0
+    let tracks = match kind {
+        Kind::Plenty => rng.pick(&[20, 100, 255]),
+        Kind::Short => rng.pick(&[1, 3, 30, 255]),
+        Kind::Full => 9,
+        _ => rng.pick(&[0, 1, 1, 2, 3]),
+    };
+    let zeros = rng.pick(&[0, 1, 4, 7]);
+    let least = if kind == Kind::Plenty { tracks / 2 } else { 0 };
+    let mut capacity = Vec::new();
+    for _ in 0..layers {
+        let closed = kind != Kind::Plenty && rng.chance(1, 8); // a layer without tracks
+        let mut draw = || if closed || rng.chance(zeros, 10) { 0 } else { rng.range(least, tracks) as u64 };
+        capacity.push((0..grid.edges()).map(|_| draw()).collect());
+    }
+
+    let mut job = Job { grid, layers, alpha, beta, gamma, capacity, nets: Vec::new() };
+    let nets = match kind {
+        Kind::Tiny => rng.range(0, 6),
+        Kind::Congested => rng.range(1, 300),
+        Kind::Plenty => rng.range(1, 100),
+        Kind::Branchy => rng.range(1, 60),
+        Kind::Thin => rng.pick(&[0, 0, 1, 2, 50, 4096]),
+        Kind::Giant => rng.range(1, 8),
+        Kind::Short => rng.pick(&[500, 1000, 3000, 4095, 4096]),
+        Kind::Full => 4096,
+    };
+    let mut left = if kind == Kind::Full { TEXT_LIMIT - write(&job).len() - 3 } else { TEXT_LIMIT };
+    let short = kind == Kind::Full && rng.chance(1, 2); // many short nets fill the text, else fewer long ones
+    for _ in 0..nets {
+        // 16 bytes for each edge and its pin, and as many for the net itself, are enough
+        let room = left / 20;
+        if room < 5 {
+            break;
+        }
+        let most = match kind {
+            Kind::Tiny => {
+                // the layerings of the job stay few
+                let left = (15.0 / (layers as f64).log2()) as usize - job.entries();
+                let most = left.min(6);
+                if crosses || rng.chance(1, 3) {
+                    most
+                } else {
+                    rng.range(0, most)
+                }
+            }
+            Kind::Congested | Kind::Plenty => rng.range(0, 20),
+            Kind::Branchy => rng.range(3, 90),
+            Kind::Thin => rng.pick(&[0, 1, 2, 63]),
+            Kind::Giant => rng.range(grid.tiles() / 4, grid.tiles()),
+            Kind::Short => rng.range(0, 6),
+            Kind::Full if short => rng.range(20, 60).min(room - 4),
+            Kind::Full => rng.range(1, grid.tiles()).min(room - 4),
+        };
+        let growth = match kind {
+            Kind::Tiny if crosses => Growth::Bush,
+            Kind::Branchy => rng.pick(&[Growth::Comb, Growth::Comb, Growth::Bush]),
+            Kind::Giant => rng.pick(&[Growth::Snake, Growth::Bush, Growth::Any, Growth::Comb, Growth::Fishbone]),
+            Kind::Full if !short && grid.tiles() < room => rng.pick(&[Growth::Any, Growth::Comb, Growth::Fishbone]),
+            _ => rng.pick(&[Growth::Snake, Growth::Bush, Growth::Any, Growth::Comb]),
+        };
+        let net = net(rng, grid, layers, most, growth);
+        let mut lines = Vec::new();
+        write_net(&mut lines, grid, job.nets.len() + 1, &net);
+        left -= lines.len();
+        job.nets.push(net);
+    }
+    if kind == Kind::Full {
+        fill(&mut job);
+    }
+    job
+}
+
+/// Lengthens the text to exactly the limit, where the track counts can: each of one digit takes up to two more.
+fn fill(job: &mut Job) {
+    let mut missing = TEXT_LIMIT - write(job).len();
+    for tracks in job.capacity.iter_mut().flatten().filter(|tracks| **tracks <= 9) {
+        let more = missing.min(2);
+        *tracks += [0, 10, 100][more];
+        missing -= more;
+    }
+}
+
+fn write_list(text: &mut Vec<u8>, key: &str, entries: &[String], separator: &str) {
+    text.extend(format!("{key}={}\n", entries.join(separator)).bytes());
+}
+
+fn write_net(text: &mut Vec<u8>, grid: Grid, number: usize, net: &Net) {
+    text.extend(format!("net={number}\n").bytes());
+    let pin = |pin: &Pin| format!("{},{},{}", pin.tile % grid.width, pin.tile / grid.width, pin.layer);
+    write_list(text, "pins", &net.pins.iter().map(pin).collect::<Vec<_>>(), ";");
+    let edge = |edge: &usize| {
+        let (tile, east) = grid.named(*edge);
+        format!("{},{},{}", tile % grid.width, tile / grid.width, if east { "e" } else { "n" })
+    };
+    write_list(text, "edges", &net.edges.iter().map(edge).collect::<Vec<_>>(), ";");
+}
+
+/// The text of a job.
+pub fn write(job: &Job) -> Vec<u8> {
+    let mut text = Vec::new();
+    let Job { grid, layers, alpha, beta, gamma, .. } = job;
+    text.extend(format!("width={}\nheight={}\nlayers={layers}\n", grid.width, grid.height).bytes());
+    text.extend(format!("alpha={alpha}\nbeta={beta}\ngamma={gamma}\n").bytes());
+    for tracks in &job.capacity {
+        let list: Vec<String> = tracks.iter().map(u64::to_string).collect();
+        let (east, north) = list.split_at(grid.east_edges());
+        write_list(&mut text, "east", east, ",");
+        write_list(&mut text, "north", north, ",");
+    }
+    text.extend(format!("nets={}\n", job.nets.len()).bytes());
+    for (place, net) in job.nets.iter().enumerate() {
+        write_net(&mut text, *grid, place + 1, net);
+    }
+    text
+}
+
+/// The ways to damage a text.
+#[derive(Clone, Copy, PartialEq, Eq, Debug)]
+pub enum Damage {
+    None,
+    /// The end cut off.
+    Cut,
+    /// One bit of one byte, or one whole byte, changed.
+    Flip,
+    /// One byte put in.
+    Insert,
+    /// One byte taken out.
+    Delete,
+    /// One line twice.
+    Double,
+    /// One line left out.
+    Drop,
+    /// Two neighbouring lines changed over.
+    Swap,
+    /// A zero before the first number of a line.
+    Zero,
+    /// A number one beyond its limit.
+    Limit,
+    /// A net number out of turn.
+    Turn,
+    /// The number of nets one too high or too low.
+    Count,
+    /// A pin twice.
+    PinTwice,
+    /// An edge twice.
+    EdgeTwice,
+    /// An edge that closes a ring.
+    Ring,
+    /// A pin or an edge off the net.
+    Off,
+    /// More bytes than are read, or lines up to just as many.
+    Long,
+    /// Only random bytes.
+    Random,
+}
+
+pub const DAMAGES: [(&str, Damage); 18] = [
+    ("none", Damage::None),
+    ("cut", Damage::Cut),
+    ("flip", Damage::Flip),
+    ("insert", Damage::Insert),
+    ("delete", Damage::Delete),
+    ("double", Damage::Double),
+    ("drop", Damage::Drop),
+    ("swap", Damage::Swap),
+    ("zero", Damage::Zero),
+    ("limit", Damage::Limit),
+    ("turn", Damage::Turn),
+    ("count", Damage::Count),
+    ("pin-twice", Damage::PinTwice),
+    ("edge-twice", Damage::EdgeTwice),
+    ("ring", Damage::Ring),
+    ("off", Damage::Off),
+    ("long", Damage::Long),
+    ("random", Damage::Random),
+];
+
+/// What is known of a text before it is read.
+#[derive(Clone, Copy, PartialEq, Eq, Debug)]
+pub enum Known {
+    /// It is the undamaged text of the job.
+    Job,
+    /// With long enough buffers it gets this refusal.
+    Refused(u32, u32),
+    /// Nothing.
+    Open,
+}
+
+/// A damaged text of the job, and what is known of it. Where the job has no place for the damage, the text is whole.
+fn damaged(rng: &mut Rng, job: &Job, damage: Damage) -> (Vec<u8>, Known) {
+    let mut text = write(job);
+    let mut lines: Vec<Vec<u8>> = text.split_inclusive(|byte| *byte == 10).map(<[u8]>::to_vec).collect();
+    let line = rng.below(lines.len()); // from 0
+    let at = rng.below(text.len());
+    let last = job.last_line();
+    let grid = job.grid;
+
+    match damage {
+        Damage::None => return (text, Known::Job),
+        Damage::Cut => {
+            text.truncate(at);
+            let whole = text.iter().filter(|byte| **byte == 10).count();
+            return (text, Known::Refused(2, whole as u32 + 1));
+        }
+        Damage::Flip => {
+            text[at] = match rng.below(3) {
+                0 => text[at] ^ (1 << rng.below(8)),
+                1 => rng.pick(b"0123456789,;=en\n"),
+                _ => rng.word() as u8,
+            };
+            return (text, Known::Open);
+        }
+        Damage::Insert => {
+            let byte = if rng.chance(1, 2) { rng.pick(b"0123456789,;=en\n") } else { rng.word() as u8 };
+            text.insert(at, byte);
+            return (text, Known::Open);
+        }
+        Damage::Delete => {
+            text.remove(at);
+            return (text, Known::Open);
+        }
+        Damage::Long => {
+            let (length, known) = rng.pick(&[
+                (TEXT_LIMIT, Known::Refused(2, last + 1)),
+                (TEXT_LIMIT + 1, Known::Refused(1, 0)),
+                (TEXT_LIMIT + 5000, Known::Refused(1, 0)),
+            ]);
+            if length > text.len() {
+                text.resize(length, 10);
+                return (text, known);
+            }
+        }
+        Damage::Random => {
+            let some = rng.chance(1, 2);
+            let draw = |_| if some { rng.pick(b"0123456789,;=enwidthlayrspg\n") } else { rng.word() as u8 };
+            return ((0..at % 3000).map(draw).collect(), Known::Open);
+        }
+        Damage::Double => {
+            // no line has the key of the one before it
+            lines.insert(line, lines[line].clone());
+            return (lines.concat(), Known::Refused(2, line as u32 + 2));
+        }
+        Damage::Drop => {
+            lines.remove(line);
+            return (lines.concat(), Known::Refused(2, line as u32 + 1));
+        }
+        Damage::Swap => {
+            if line + 1 < lines.len() {
+                lines.swap(line, line + 1);
+                return (lines.concat(), Known::Refused(2, line as u32 + 1));
+            }
+        }
+        Damage::Zero => {
+            // in an empty list it is an entry too many or of the wrong form
+            let value = lines[line].iter().position(|byte| *byte == b'=').unwrap() + 1;
+            lines[line].insert(value, b'0');
+            return (lines.concat(), Known::Refused(2, line as u32 + 1));
+        }
+        Damage::Count => {
+            let nets = if rng.chance(1, 2) { job.nets.len() + 1 } else { job.nets.len().saturating_sub(1) };
+            let nets_line = job.nets_line();
+            if nets != job.nets.len() {
+                lines[nets_line as usize - 1] = format!("nets={nets}\n").into_bytes();
+                let after = if nets < job.nets.len() { nets_line + 3 * nets as u32 + 1 } else { last + 1 };
+                let known = if nets > 4096 { Known::Refused(3, nets_line) } else { Known::Refused(2, after) };
+                return (lines.concat(), known);
+            }
+        }
+        Damage::Limit => {
+            let beyond = beyond_limit(rng, job);
+            if let Some((line, value)) = beyond {
+                lines[line as usize - 1] = value.into_bytes();
+                return (lines.concat(), Known::Refused(3, line));
+            }
+        }
+        _ => {
+            // the damages of one net
+            if job.nets.is_empty() {
+                return (text, Known::Job);
+            }
+            let place = rng.below(job.nets.len());
+            let mut net = job.nets[place].clone();
+            let tiles = net.tiles(grid);
+            let outside: Vec<usize> = (0..grid.tiles()).filter(|tile| !tiles.contains(tile)).collect();
+            let edges_with = |inside: usize| -> Vec<usize> {
+                let ends_inside = |edge: &usize| grid.ends(*edge).iter().filter(|tile| tiles.contains(tile)).count();
+                (0..grid.edges()).filter(|edge| ends_inside(edge) == inside && !net.edges.contains(edge)).collect()
+            };
+            let mut number = place + 1;
+            let first_line = job.nets_line() + 3 * place as u32 + 1;
+            let known = match damage {
+                Damage::Turn => {
+                    number = rng.pick(&[place, place + 2, 0, 99999]);
+                    Known::Refused(4, first_line)
+                }
+                Damage::PinTwice => {
+                    let pin = rng.pick(&net.pins);
+                    let at = rng.below(net.pins.len() + 1);
+                    net.pins.insert(at, pin);
+                    Known::Refused(5, first_line + 1)
+                }
+                Damage::EdgeTwice if !net.edges.is_empty() => {
+                    let edge = rng.pick(&net.edges);
+                    let at = rng.below(net.edges.len() + 1);
+                    net.edges.insert(at, edge);
+                    Known::Refused(6, first_line + 2)
+                }
+                Damage::Ring if !edges_with(2).is_empty() => {
+                    let edge = rng.pick(&edges_with(2));
+                    let at = rng.below(net.edges.len() + 1);
+                    net.edges.insert(at, edge);
+                    Known::Refused(7, first_line + 2)
+                }
+                Damage::Off if !edges_with(0).is_empty() && rng.chance(1, 2) => {
+                    let edge = rng.pick(&edges_with(0));
+                    let at = rng.below(net.edges.len() + 1);
+                    net.edges.insert(at, edge);
+                    Known::Refused(8, first_line + 2)
+                }
+                Damage::Off if !outside.is_empty() => {
+                    let pin = Pin { tile: rng.pick(&outside), layer: 1 };
+                    let at = rng.below(net.pins.len() + 1);
+                    net.pins.insert(at, pin);
+                    Known::Refused(8, first_line + 2)
+                }
+                _ => return (text, Known::Job),
+            };
+            let mut changed = Vec::new();
+            write_net(&mut changed, grid, number, &net);
+            let at = first_line as usize - 1;
+            lines.splice(at..at + 3, [changed]);
+            return (lines.concat(), known);
+        }
+    }
+    (text, Known::Job)
+}
+
+/// A line of the job with one number just beyond its limit: the line's number and the line.
+fn beyond_limit(rng: &mut Rng, job: &Job) -> Option<(u32, String)> {
+    let Grid { width, height } = job.grid;
+    let layers = job.layers;
+    match rng.below(10) {
+        0 => Some((1, format!("width={}\n", rng.pick(&[0, 65, 99999])))),
+        1 => Some((2, format!("height={}\n", rng.pick(&[0, 65])))),
+        2 => Some((3, format!("layers={}\n", rng.pick(&[0, 1, 9])))),
+        3 => {
+            let place = rng.below(3);
+            Some((place as u32 + 4, format!("{}=256\n", ["alpha", "beta", "gamma"][place])))
+        }
+        4 => Some((job.nets_line(), "nets=4097\n".to_string())),
+        5 | 6 => {
+            let layer = rng.below(layers);
+            let (east, north) = job.capacity[layer].split_at(job.grid.east_edges());
+            let (key, list, line) = rng.pick(&[("east", east, 7), ("north", north, 8)]);
+            if list.is_empty() {
+                return None;
+            }
+            let mut list: Vec<String> = list.iter().map(u64::to_string).collect();
+            let place = rng.below(list.len());
+            list[place] = "256".to_string();
+            Some((line + 2 * layer as u32, format!("{key}={}\n", list.join(","))))
+        }
+        _ if job.nets.is_empty() => None,
+        choice => {
+            let place = rng.below(job.nets.len());
+            let mut lines = Vec::new();
+            write_net(&mut lines, job.grid, place + 1, &job.nets[place]);
+            let lines = String::from_utf8(lines).unwrap();
+            let line = if choice == 7 { 1 } else { 2 };
+            let mut entries: Vec<&str> = lines.lines().nth(line).unwrap().split(['=', ';']).collect();
+            let (x, y) = (rng.below(width), rng.below(height));
+            let entry = match (choice, rng.below(4)) {
+                (7, 0) => format!("{width},{y},1"),
+                (7, 1) => format!("{x},{height},1"),
+                (7, 2) => format!("{x},{y},0"),
+                (7, _) => format!("{x},{y},{}", layers + 1),
+                (_, 0) => format!("{},{y},e", width - 1),
+                (_, 1) => format!("{x},{},n", height - 1),
+                (_, 2) => format!("{width},{y},n"),
+                (_, _) => format!("{x},{height},e"),
+            };
+            entries.retain(|entry| !entry.is_empty());
+            entries.insert(rng.range(1, entries.len()), &entry);
+            let value = entries[1..].join(";");
+            Some((job.nets_line() + 3 * place as u32 + 1 + line as u32, format!("{}={value}\n", entries[0])))
+        }
+    }
+}
+
+/// Lent lengths around what is needed: exactly that, one less, or more. Often all are long enough.
+fn lengths(rng: &mut Rng, need: Lengths) -> Lengths {
+    let enough = rng.chance(1, 2);
+    let mut near = |need: usize| match rng.below(6) {
+        0 if !enough => need.saturating_sub(1),
+        1 if !enough => rng.below(need + 1),
+        2 => need + 1,
+        3 => need + rng.below(100),
+        _ => need,
+    };
+    Lengths {
+        work: near(need.work),
+        order: near(need.order),
+        answer: near(need.answer),
+        print: Some(near(need.print.unwrap())),
+    }
+}
+
+/// A drawn job: the job, its text (damaged or not), what is known of the text, and lent lengths.
+pub struct Drawn {
+    pub kind: Kind,
+    pub damage: Damage,
+    pub job: Job,
+    pub text: Vec<u8>,
+    pub known: Known,
+    pub lent: Lengths,
+}
+
+/// Draws from a seed. Without a kind, tiny jobs are the most frequent and full texts the rarest; without a damage,
+/// half of the texts are whole.
+pub fn draw(seed: u64, kind: Option<Kind>, damage: Option<Damage>) -> Drawn {
+    let mut rng = Rng::new(seed);
+    let any = match rng.below(500) {
+        0 => Kind::Full,
+        1..=4 => Kind::Short,
+        5..=9 => Kind::Giant,
+        10..=39 => Kind::Thin,
+        40..=89 => Kind::Branchy,
+        90..=119 => Kind::Congested,
+        120..=149 => Kind::Plenty,
+        _ => Kind::Tiny,
+    };
+    let kind = kind.unwrap_or(any);
+    let job = job(&mut rng, kind);
+    let any = if rng.chance(1, 2) { Damage::None } else { DAMAGES[rng.range(1, DAMAGES.len() - 1)].1 };
+    let damage = damage.unwrap_or(any);
+    let (text, known) = damaged(&mut rng, &job, damage);
+    let lent = lengths(&mut rng, job.need());
+    Drawn { kind, damage, job, text, known, lent }
+}
+
+impl Drawn {
+    /// The refusal that the text must get with these lent lengths, or none where it must be accepted; nothing is said
+    /// where nothing is known. 9 is found after line 3, 10 after the `nets` line, 11 after the whole text.
+    pub fn outcome(&self, lent: Lengths) -> Option<Option<Refusal>> {
+        let (number, line) = match self.known {
+            Known::Open => return None,
+            Known::Job => (0, u32::MAX),
+            Known::Refused(number, line) => (number, line),
+        };
+        if self.text.len() > TEXT_LIMIT {
+            return Some(Some(Refusal { number: 1, line: 0 }));
+        }
+        let need = self.job.need();
+        let nets_line = self.job.nets_line();
+        let nets = self.text.split(|byte| *byte == 10).nth(nets_line as usize - 1);
+        let nets = nets.and_then(|line| std::str::from_utf8(line).ok()?.strip_prefix("nets=")?.parse().ok());
+        let refused = |number: u32, line: u32| Some(Some(Refusal { number, line }));
+        if line > 3 && lent.work < need.work {
+            return refused(9, 3);
+        }
+        if line > nets_line && lent.order < nets.unwrap_or(0) {
+            return refused(10, nets_line);
+        }
+        if number > 0 {
+            return refused(number, line);
+        }
+        let print_short = lent.print.is_some_and(|length| length < need.print.unwrap());
+        if lent.answer < need.answer || print_short {
+            return refused(11, self.job.last_line());
+        }
+        Some(None)
+    }
+}

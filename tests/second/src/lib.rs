@@ -1,0 +1,18 @@
+//! A second, independent implementation of the layer planner, written from the specification alone, to be held
+//! against the first one call by call. It aims at being right by inspection, not at speed or at little storage.
+//!
+//! - `job`: a job, and the reading of a job text: the job or its one refusal.
+//! - `plan`: overflow on the flat plan, scores, order, each net's walk, its layers, the plan and its print.
+//! - `calls`: Plan and Print over lent buffers, the trait `Planner`, and the test that holds any planner to this one.
+//! - `check`: what can be checked of a plan of any size, with another method than the planner's.
+//! - `brute`: demand 3 over all layerings of all nets, for tiny jobs.
+//! - `gen`: jobs, damaged texts and lent lengths by seed.
+//! - `run`: many drawn jobs, each checked.
+
+pub mod brute;
+pub mod calls;
+pub mod check;
+pub mod gen;
+pub mod job;
+pub mod plan;
+pub mod run;

@@ -1,0 +1,95 @@
+//! Many drawn jobs, each checked: the reading against what is known of the text, both calls with their effect on every
+//! lent buffer, the plan by `check`, and on tiny jobs by `brute`.
+
+use crate::calls::{answer, held, Planner};
+use crate::gen::{draw, Drawn, Kind};
+use crate::job::{read, Lengths};
+use crate::{brute, check};
+use std::fmt;
+
+/// The most layerings that are looked at one by one.
+pub const BRUTE_MOST: u64 = 40_000;
+
+/// The figures of a run.
+#[derive(Default)]
+pub struct Summary {
+    pub jobs: u64,
+    pub calls: u64,
+    pub accepted: u64,
+    /// By refusal number: jobs on which Print gave it.
+    pub refused: [u64; 12],
+    pub damaged: u64,
+    pub full: u64,
+    pub largest_text: usize,
+    pub most_nets: usize,
+    pub most_edges: usize,
+    pub most_vias: u64,
+    pub with_overflow: u64,
+    pub brute: u64,
+    pub layerings: u64,
+}
+
+impl fmt::Display for Summary {
+    fn fmt(&self, out: &mut fmt::Formatter) -> fmt::Result {
+        writeln!(out, "jobs={} damaged={} calls={}", self.jobs, self.damaged, self.calls)?;
+        writeln!(out, "accepted={} of_these_with_overflow={}", self.accepted, self.with_overflow)?;
+        let refused: Vec<String> = (1..=11).map(|n| format!("{n}:{}", self.refused[n])).collect();
+        writeln!(out, "refused {}", refused.join(" "))?;
+        write!(out, "largest accepted: text={} nets={}", self.largest_text, self.most_nets)?;
+        writeln!(out, " edges={} vias={}; texts of the full length: {}", self.most_edges, self.most_vias, self.full)?;
+        writeln!(out, "by_brute_force={} layerings={}", self.brute, self.layerings)
+    }
+}
+
+impl Summary {
+    /// Draws the job of this seed and holds the planner to it.
+    pub fn add(&mut self, planner: &dyn Planner, seed: u64) -> Result<(), String> {
+        let drawn = draw(seed, None, None);
+        self.add_drawn(planner, &drawn, seed).map_err(|fault| {
+            let Drawn { kind, damage, lent, .. } = &drawn;
+            format!("seed {seed} ({kind:?}, {damage:?}, {lent:?}): {fault}")
+        })
+    }
+
+    fn add_drawn(&mut self, planner: &dyn Planner, drawn: &Drawn, seed: u64) -> Result<(), String> {
+        let Drawn { job, text, lent, .. } = drawn;
+        self.jobs += 1;
+        self.damaged += u64::from(*text != crate::gen::write(job));
+
+        // the undamaged text with exactly the needed lengths is read as the job
+        if read(&crate::gen::write(job), job.need()).as_ref() != Ok(job) {
+            return Err("the job's own text is not read as the job".to_string());
+        }
+        for print in [None, lent.print] {
+            let lent = Lengths { print, ..*lent };
+            let expected = answer(text, lent);
+            if let Some(outcome) = drawn.outcome(lent) {
+                if expected.as_ref().err() != outcome.as_ref() {
+                    return Err(format!("{:?} where {outcome:?} was expected", expected.err()));
+                }
+            }
+            let returned = held(planner, text, lent, &expected, seed)?;
+            self.calls += 1;
+            if print.is_none() {
+                continue;
+            }
+            self.refused[returned.number as usize] += 1;
+            let Ok(plan) = expected else { continue };
+
+            let job = &read(text, lent).map_err(|refusal| format!("{refusal:?} after an accepted call"))?;
+            check::check(job, &plan)?;
+            self.accepted += 1;
+            self.with_overflow += u64::from(plan.total_overflow > 0);
+            self.full += u64::from(drawn.kind == Kind::Full && text.len() == crate::job::TEXT_LIMIT);
+            self.largest_text = self.largest_text.max(text.len());
+            self.most_nets = self.most_nets.max(job.nets.len());
+            self.most_edges = self.most_edges.max(job.entries());
+            self.most_vias = self.most_vias.max(plan.total_vias);
+            if brute::layerings(job, BRUTE_MOST).is_some() && job.nets.len() <= 20 {
+                self.layerings += brute::check(job, &plan.order, &plan.layers.concat(), &returned)?;
+                self.brute += 1;
+            }
+        }
+        Ok(())
+    }
+}

@@ -1,0 +1,366 @@
+//! The worked cases of document 01, and what its table and its terms say of single lines.
+
+use second::brute;
+use second::calls::{answer, held, Buffers, Planner, Returned, Second};
+use second::check;
+use second::job::{read, Grid, Lengths, Net, Refusal, TEXT_LIMIT};
+use second::plan::{plan, print, walk, Entry, Plan};
+
+const AMPLE: Lengths = Lengths { work: 1 << 18, order: 4096, answer: 1 << 17, print: Some(1 << 20) };
+
+/// A job text: width, height, layers; alpha, beta, gamma; `east` and `north` of each layer; `pins` and `edges` of each net.
+fn text(size: [usize; 3], weights: [usize; 3], capacities: &[(&str, &str)], nets: &[(&str, &str)]) -> String {
+    let ([w, h, k], [a, b, c]) = (size, weights);
+    let mut text = format!("width={w}\nheight={h}\nlayers={k}\nalpha={a}\nbeta={b}\ngamma={c}\n");
+    for (east, north) in capacities {
+        text += &format!("east={east}\nnorth={north}\n");
+    }
+    text += &format!("nets={}\n", nets.len());
+    for (place, (pins, edges)) in nets.iter().enumerate() {
+        text += &format!("net={}\npins={pins}\nedges={edges}\n", place + 1);
+    }
+    text
+}
+
+/// The plan of an accepted job, after all checks.
+fn planned(text: &str) -> Plan {
+    let job = read(text.as_bytes(), AMPLE).expect("accepted");
+    let exact = held(&Second, text.as_bytes(), job.need(), &Ok(plan(&job)), 7).unwrap();
+    held(&Second, text.as_bytes(), AMPLE, &Ok(plan(&job)), 8).unwrap();
+    let plan = answer(text.as_bytes(), AMPLE).unwrap();
+    check::check(&job, &plan).unwrap();
+    if brute::layerings(&job, 100_000).is_some() {
+        brute::check(&job, &plan.order, &plan.layers.concat(), &exact).unwrap();
+    }
+    plan
+}
+
+/// The refusal of a text, 0 and 0 where it is accepted. A refused call writes nothing but zeros in the working numbers.
+fn refusal(text: &str, lent: Lengths) -> (u32, u32) {
+    let expected = answer(text.as_bytes(), lent);
+    held(&Second, text.as_bytes(), lent, &expected, 9).unwrap();
+    expected.err().map_or((0, 0), |Refusal { number, line }| (number, line))
+}
+
+fn refused(text: &str) -> (u32, u32) {
+    refusal(text, AMPLE)
+}
+
+const C1: &str = "width=3\nheight=1\nlayers=2\nalpha=1\nbeta=1\ngamma=0\neast=1,1\nnorth=\neast=1,1\nnorth=\nnets=2\n\
+    net=1\npins=0,0,1;2,0,1\nedges=0,0,e;1,0,e\nnet=2\npins=0,0,1;1,0,1\nedges=0,0,e\n";
+
+#[test]
+fn c1() {
+    let plan = planned(C1);
+    let printed = "order=2,1\nnet=1\nvias=2\nlayers=2,1\nnet=2\nvias=0\nlayers=1\n\
+        total_vias=2\ntotal_overflow=0\nmax_overflow=0\n";
+    assert_eq!(print(&plan), printed);
+    assert_eq!(plan.order, [Entry { net: 2, score: 3000 }, Entry { net: 1, score: 2500 }]);
+}
+
+#[test]
+fn c2() {
+    assert_eq!(refused(""), (2, 1));
+}
+
+#[test]
+fn c3() {
+    let plan = planned(&text([1, 1, 2], [1, 1, 1], &[("", ""); 2], &[]));
+    assert_eq!(print(&plan), "order=\ntotal_vias=0\ntotal_overflow=0\nmax_overflow=0\n");
+}
+
+#[test]
+fn c4() {
+    let plan = planned(&text([1, 1, 4], [0, 0, 0], &[("", ""); 4], &[("0,0,1;0,0,4", "")]));
+    let printed = "order=1\nnet=1\nvias=3\nlayers=\ntotal_vias=3\ntotal_overflow=0\nmax_overflow=0\n";
+    assert_eq!(print(&plan), printed);
+}
+
+#[test]
+fn c5_c6_c7() {
+    let case = |capacities: [&str; 2], nets: usize, layer: u8| {
+        let pins = format!("0,0,{layer};1,0,{layer}");
+        let capacities = capacities.map(|tracks| (tracks, ""));
+        planned(&text([2, 1, 2], [1, 1, 1], &capacities, &vec![(pins.as_str(), "0,0,e"); nets]))
+    };
+    let c5 = case(["1", "0"], 1, 2);
+    assert_eq!((c5.layers, c5.vias), (vec![vec![1]], vec![2]));
+    let c6 = case(["1", "0"], 2, 2);
+    assert_eq!((c6.layers, c6.vias), (vec![vec![2], vec![1]], vec![0, 2]));
+    assert_eq!((c6.total_overflow, c6.max_overflow), (1, 1));
+    let c7 = case(["0", "0"], 3, 1);
+    assert_eq!(c7.layers, [[1], [1], [2]]);
+    assert_eq!((c7.total_overflow, c7.max_overflow), (3, 2));
+}
+
+#[test]
+fn c8_c9() {
+    let three = [("0,0,1", "0,0,e;1,0,e;2,0,e")];
+    assert_eq!(planned(&text([4, 1, 2], [1, 0, 0], &[("0,0,0", ""); 2], &three)).order[0].score, 333);
+    let one = ("0,0,1", "0,0,e");
+    let third = |capacities: [&str; 2], nets| {
+        let capacities = capacities.map(|tracks| (tracks, ""));
+        planned(&text([2, 1, 2], [0, 0, 1], &capacities, &vec![one; nets])).order[0].score
+    };
+    assert_eq!(third(["1", "2"], 2), 666);
+    assert_eq!(third(["0", "0"], 3), 3000);
+}
+
+#[test]
+fn c10() {
+    let square = ["0,0,e", "0,1,e", "0,0,n", "1,0,n"];
+    let job = |edges: &[&str]| text([2, 2, 2], [1, 1, 1], &[("1,1", "1,1"); 2], &[("0,0,1;1,1,2", &edges.join(";"))]);
+    assert_eq!(refused(&job(&square)), (7, 14));
+    for left_out in 0..4 {
+        let mut edges = square.to_vec();
+        edges.remove(left_out);
+        planned(&job(&edges));
+    }
+}
+
+#[test]
+fn limits() {
+    let zeros = |count: usize| vec!["0"; count].join(",");
+    let row = |width: usize| text([width, 1, 2], [1, 1, 1], &[(zeros(width - 1).as_str(), ""); 2], &[]);
+    assert_eq!((refused(&row(64)), refused(&row(65))), ((0, 0), (3, 1)));
+    let column = |height: usize| text([1, height, 2], [1, 1, 1], &[("", zeros(height - 1).as_str()); 2], &[]);
+    assert_eq!((refused(&column(64)), refused(&column(65))), ((0, 0), (3, 2)));
+    let stack = |layers: usize| refused(&text([1, 1, layers], [1, 1, 1], &vec![("", ""); layers], &[]));
+    assert_eq!([1, 2, 8, 9].map(stack), [(3, 3), (0, 0), (0, 0), (3, 3)]);
+    let tracks = |tracks: &str| refused(&text([2, 1, 2], [1, 1, 1], &[("0", ""), (tracks, "")], &[]));
+    assert_eq!([tracks("255"), tracks("256")], [(0, 0), (3, 9)]);
+    let weight = |weight: usize| refused(&text([1, 1, 2], [weight, 255, 255], &[("", ""); 2], &[]));
+    assert_eq!([255, 256].map(weight), [(0, 0), (3, 4)]);
+    assert_eq!(refused(&text([2, 1, 2], [1, 1, 1], &[("1", ""); 2], &[("0,0,1;1,0,1", "")])), (8, 14));
+    assert_eq!(refused(&text([3, 1, 2], [1, 1, 1], &[("1,1", ""); 2], &[("0,0,1", "1,0,e")])), (8, 14));
+    let nets = |count: usize| refused(&text([1, 1, 2], [1, 1, 1], &[("", ""); 2], &vec![("0,0,1", ""); count]));
+    assert_eq!([4096, 4097].map(nets), [(0, 0), (3, 11)]);
+    let long = |length: usize| refused(&format!("{C1}{}", "\n".repeat(length - C1.len())));
+    assert_eq!([TEXT_LIMIT, TEXT_LIMIT + 1].map(long), [(2, 18), (1, 0)]);
+}
+
+#[test]
+fn numbers() {
+    let with = |value: &str| refused(&C1.replace("alpha=1", &format!("alpha={value}")));
+    let no_numbers = ["", "00", "01", "+1", "-1", " 1", "1 ", "1\r", "0x1", "1.0", "100000", "000000", "1,1", "1e1"];
+    assert!(no_numbers.into_iter().all(|value| with(value) == (2, 4)));
+    assert!(["256", "99999"].into_iter().all(|value| with(value) == (3, 4)));
+    assert!(["0", "9", "10", "255"].into_iter().all(|value| with(value) == (0, 0)));
+    let net = |value: &str| refused(&C1.replace("net=2", &format!("net={value}")));
+    assert!(["0", "1", "3", "4097", "99999"].into_iter().all(|value| net(value) == (4, 15)));
+    assert!(["", "02", "100000", "2,"].into_iter().all(|value| net(value) == (2, 15)));
+}
+
+#[test]
+fn on_one_line_the_lower_number_wins() {
+    let pins = |value: &str| refused(&C1.replace("pins=0,0,1;2,0,1", &format!("pins={value}")));
+    for value in ["", ";", "0,0", "0,0,1;", ";0,0,1", "0,0,1,1", "3,0,1;0,0,e", "0,0,1;0,0,1;0,0,01", "0,0,1;;2,0,1"] {
+        assert_eq!(pins(value), (2, 13), "{value}");
+    }
+    for value in ["3,0,1", "0,1,1", "0,0,0", "0,0,3", "0,0,1;0,0,1;3,0,1", "99999,0,1"] {
+        assert_eq!(pins(value), (3, 13), "{value}");
+    }
+    assert_eq!(pins("0,0,1;0,0,2;0,0,1"), (5, 13));
+    assert_eq!(pins("0,0,1;0,0,2"), (0, 0));
+
+    let edges = |value: &str| refused(&C1.replace("edges=0,0,e;1,0,e", &format!("edges={value}")));
+    for value in [";", "0,0", "0,0,e;", "0,0,1", "0,0,E", "0,0,e,", "2,0,e;0,0", "0,0,e;0,0,e;0,00,e", "0,0,w"] {
+        assert_eq!(edges(value), (2, 14), "{value}");
+    }
+    for value in ["2,0,e", "0,0,n", "3,0,e", "0,1,e", "0,0,e;0,0,e;2,0,e"] {
+        assert_eq!(edges(value), (3, 14), "{value}");
+    }
+    assert_eq!(edges("0,0,e;0,0,e"), (6, 14)); // and the pin in (2, 0) is not reached
+    assert_eq!(edges("1,0,e"), (8, 14));
+    assert_eq!(edges(""), (8, 14));
+
+    // a ring beats what is not reached; an edge twice is no ring
+    let four =
+        |edges: &str| refused(&text([3, 3, 2], [1; 3], &[("0,0,0,0,0,0", "0,0,0,0,0,0"); 2], &[("0,0,1", edges)]));
+    assert_eq!(four("1,1,e;1,1,n;2,1,n;1,2,e"), (7, 14));
+    assert_eq!(four("1,1,e;1,1,n;2,1,n;1,2,e;1,1,e"), (6, 14));
+    assert_eq!(four("1,1,e;1,1,n;2,1,n"), (8, 14));
+    assert_eq!(four("0,0,n;0,1,e;1,1,e;1,1,n;2,1,n"), (0, 0));
+
+    let east = |value: &str| refused(&C1.replacen("east=1,1", &format!("east={value}"), 1));
+    for value in ["", "1", "1,1,1", "256,1,1", "256", "256,", "256,x", "1,,1", "1;1"] {
+        assert_eq!(east(value), (2, 7), "{value}");
+    }
+    assert_eq!(east("256,1"), (3, 7));
+    assert_eq!(refused(&C1.replacen("north=", "north=0", 1)), (2, 8));
+}
+
+#[test]
+fn lines() {
+    assert_eq!(refused(C1.strip_suffix('\n').unwrap()), (2, 17));
+    assert_eq!(refused(&format!("{C1}\n")), (2, 18));
+    assert_eq!(refused(&format!("{C1}x")), (2, 18));
+    assert_eq!(refused("width=3"), (2, 1));
+    assert_eq!(refused("width=65"), (2, 1));
+    assert_eq!(refused("width=65\n"), (3, 1));
+    assert_eq!(refused("width=64\n"), (2, 2));
+    assert_eq!(refused("Width=3\n"), (2, 1));
+    assert_eq!(refused("width3\n"), (2, 1));
+    assert_eq!(refused("\n"), (2, 1));
+    assert_eq!(refused(&C1.replace("nets=2", "nets=3")), (2, 18));
+    assert_eq!(refused(&C1.replace("nets=2", "nets=1")), (2, 15));
+    assert_eq!(refused(&C1.replace('\n', "\r\n")), (2, 1));
+}
+
+#[test]
+fn lent_lengths() {
+    // E = 2, T = 3, K = 2, N = 2, A = 3
+    let need = Lengths { work: 8 + 4 + 96, order: 2, answer: 3, print: Some(256 + 128 + 6) };
+    assert_eq!(read(C1.as_bytes(), need).unwrap().need(), need);
+    let short = |change: &dyn Fn(&mut Lengths)| {
+        let mut lent = need;
+        change(&mut lent);
+        (refusal(C1, lent), refusal(C1, Lengths { print: None, ..lent }))
+    };
+    assert_eq!(short(&|_| ()), ((0, 0), (0, 0)));
+    assert_eq!(short(&|lent| lent.work -= 1), ((9, 3), (9, 3)));
+    assert_eq!(short(&|lent| lent.order -= 1), ((10, 11), (10, 11)));
+    assert_eq!(short(&|lent| lent.answer -= 1), ((11, 17), (11, 17)));
+    assert_eq!(short(&|lent| lent.print = Some(389)), ((11, 17), (0, 0)));
+
+    // 9 comes right after line 3, 10 right after the `nets` line, 11 after the whole text
+    let nothing = Lengths { work: 0, order: 0, answer: 0, print: Some(0) };
+    assert_eq!(refusal(C1, nothing), (9, 3));
+    assert_eq!(refusal("width=3\nheight=1\nlayers=2\n", nothing), (9, 3));
+    assert_eq!(refusal("width=3\nheight=1\nlayers=1\n", nothing), (3, 3));
+    assert_eq!(refusal("width=3\nheight=1\nlayers=2", nothing), (2, 3));
+    let lists = Lengths { work: 108, ..nothing };
+    assert_eq!(refusal(&C1.replace("alpha=1", "alpha=256"), lists), (3, 4));
+    assert_eq!(refusal(C1, lists), (10, 11));
+    assert_eq!(refusal(&C1.replace("nets=2", "nets=4097"), lists), (3, 11));
+    assert_eq!(refusal(&format!("{C1}x"), Lengths { order: 2, ..lists }), (2, 18));
+    assert_eq!(refusal(C1, Lengths { order: 2, ..lists }), (11, 17));
+    assert_eq!(refusal(&"\n".repeat(TEXT_LIMIT + 1), nothing), (1, 0));
+}
+
+#[test]
+fn roads_that_look_short() {
+    // C5 with another edge that lifts MO: the layer's own overflow would be within the limit, the edge's sum is not
+    let lifted =
+        text([3, 1, 2], [1, 1, 1], &[("1,0", ""), ("0,0", "")], &[("0,0,2;1,0,2", "0,0,e"), ("1,0,1", "1,0,e")]);
+    let plan = planned(&lifted);
+    assert_eq!((&plan.layers[0][..], plan.vias[0], plan.max_overflow), (&[1][..], 2, 1));
+
+    // nets on all of the metal of one edge, and d(e) of the whole flat plan in the score of the net placed first
+    let nets = [("0,0,1", "0,0,e"), ("1,0,1", "1,0,e"), ("1,0,1", "1,0,e")];
+    let order = planned(&text([3, 1, 2], [0, 0, 1], &[("1,1", ""); 2], &nets)).order;
+    assert_eq!(
+        order.iter().map(|entry| (entry.net, entry.score)).collect::<Vec<_>>(),
+        [(2, 1000), (3, 1000), (1, 500)]
+    );
+}
+
+#[test]
+fn walk_of_a_cross() {
+    // tiles 0 to 8 in rows of three; a cross round tile 4, and tile 5 goes on to tile 8
+    let grid = Grid { width: 3, height: 3 };
+    let edge = |tile: usize, way: usize| grid.way(tile, way).unwrap().1;
+    let edges = vec![edge(3, 0), edge(4, 0), edge(5, 1), edge(1, 1), edge(4, 1)];
+    let steps = walk(grid, &Net { pins: Vec::new(), edges: edges.clone() });
+    let tiles: Vec<usize> = steps.iter().map(|step| step.tile).collect();
+    assert_eq!(tiles, [1, 4, 5, 7, 3, 8]);
+    let above: Vec<Option<usize>> = steps.iter().map(|step| step.edge).collect();
+    assert_eq!(above, [None, Some(edges[3]), Some(edges[1]), Some(edges[4]), Some(edges[0]), Some(edges[2])]);
+    let branches: Vec<&[usize]> = steps.iter().map(|step| &step.branches[..]).collect();
+    assert_eq!(branches, [&[1][..], &[2, 3, 4], &[5], &[], &[], &[]]);
+}
+
+#[test]
+fn wrong_plans_are_noticed() {
+    let job = read(C1.as_bytes(), AMPLE).unwrap();
+    let right = plan(&job);
+    let noticed = |change: &dyn Fn(&mut Plan)| {
+        let mut wrong = right.clone();
+        change(&mut wrong);
+        wrong.total_vias = wrong.vias.iter().sum();
+        let (vias, total, maximum) = (wrong.total_vias, wrong.total_overflow, wrong.max_overflow);
+        let returned = Returned { vias, total, maximum, ..Returned::default() };
+        let by_brute = brute::check(&job, &wrong.order, &wrong.layers.concat(), &returned).is_err();
+        (check::check(&job, &wrong).is_err(), by_brute)
+    };
+    assert_eq!(noticed(&|_| ()), (false, false));
+    assert_eq!(noticed(&|plan| plan.layers[0] = vec![2, 2]), (true, true)); // as few vias, but later in walk order
+    assert_eq!(noticed(&|plan| plan.layers[0] = vec![1, 1]), (true, true)); // no track left
+    assert_eq!(noticed(&|plan| plan.layers = vec![vec![1, 1], vec![1]]), (true, true));
+    assert_eq!(noticed(&|plan| plan.layers[0][1] = 0), (true, true));
+    assert_eq!(noticed(&|plan| plan.layers[0][1] = 3), (true, true));
+    assert_eq!(noticed(&|plan| plan.order.swap(0, 1)), (true, true));
+    assert_eq!(noticed(&|plan| plan.order[0].score += 1), (true, true));
+    assert_eq!(noticed(&|plan| plan.vias[0] += 1), (true, true));
+    assert_eq!(noticed(&|plan| plan.total_overflow += 1), (true, true));
+    assert_eq!(noticed(&|plan| plan.max_overflow += 1), (true, true));
+    let other_net_first = |plan: &mut Plan| {
+        plan.layers = vec![vec![1, 1], vec![2]];
+        plan.vias = vec![0, 2];
+    };
+    assert_eq!(noticed(&other_net_first), (true, true));
+}
+
+/// A planner that does one more thing after the call.
+struct Careless(After);
+
+type After = fn(&mut [u32], &mut [Entry], &mut [u8], &mut [u8], &mut Returned);
+
+impl Planner for Careless {
+    fn plan(&self, text: &[u8], work: &mut [u32], order: &mut [Entry], answer: &mut [u8]) -> Returned {
+        let mut returned = Second.plan(text, work, order, answer);
+        self.0(work, order, answer, &mut [], &mut returned);
+        returned
+    }
+
+    fn print(
+        &self,
+        text: &[u8],
+        work: &mut [u32],
+        order: &mut [Entry],
+        answer: &mut [u8],
+        print: &mut [u8],
+    ) -> Returned {
+        let mut returned = Second.print(text, work, order, answer, print);
+        self.0(work, order, answer, print, &mut returned);
+        returned
+    }
+}
+
+#[test]
+fn wrong_effects_are_noticed() {
+    let faults = [
+        Careless(|work, _, _, _, _| work[0] = 1),
+        Careless(|work, _, _, _, _| *work.last_mut().unwrap() = 1),
+        Careless(|_, order, _, _, _| order[0].score ^= 1),
+        Careless(|_, order, _, _, _| order.last_mut().unwrap().net ^= 1),
+        Careless(|_, _, answer, _, _| answer[0] ^= 1),
+        Careless(|_, _, answer, _, _| *answer.last_mut().unwrap() ^= 1),
+        Careless(|_, _, _, print, _| print[0] ^= 1),
+        Careless(|_, _, _, print, _| *print.last_mut().unwrap() ^= 1),
+        Careless(|_, _, _, _, returned| returned.line += 1),
+        Careless(|_, _, _, _, returned| returned.vias += 1),
+        Careless(|_, _, _, _, returned| returned.length += 1),
+    ];
+    for text in [C1, "width=0\n"] {
+        let lent = Lengths { work: 200, order: 5, answer: 5, print: Some(500) };
+        let expected = answer(text.as_bytes(), lent);
+        held(&Second, text.as_bytes(), lent, &expected, 3).unwrap();
+        for fault in &faults {
+            assert!(held(fault, text.as_bytes(), lent, &expected, 3).is_err());
+        }
+    }
+}
+
+#[test]
+fn what_the_buffers_held_before_is_of_no_account() {
+    let lent = Lengths { work: 108, order: 2, answer: 3, print: Some(390) };
+    let after = |seed| {
+        let mut lent = Buffers::filled(lent, seed);
+        let length =
+            Second.print(C1.as_bytes(), &mut lent.work, &mut lent.order, &mut lent.answer, &mut lent.print).length;
+        lent.print.truncate(length as usize);
+        lent
+    };
+    assert_eq!(after(1), after(2));
+}

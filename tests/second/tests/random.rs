@@ -1,0 +1,73 @@
+//! Drawn jobs, checked; the run of the program `second self`, shorter and with every kind and damage.
+
+use second::brute;
+use second::calls::{answer, held, Second};
+use second::gen::{draw, write, Damage, Kind, DAMAGES, KINDS};
+use second::job::{read, Lengths, TEXT_LIMIT};
+use second::run::Summary;
+
+#[test]
+fn a_run() {
+    let mut summary = Summary::default();
+    for seed in 0..600 {
+        summary.add(&Second, seed).unwrap();
+    }
+    println!("{summary}");
+    assert!(summary.refused.iter().all(|count| *count > 0), "every refusal occurs");
+    assert!(summary.brute > 100);
+}
+
+#[test]
+fn tiny_jobs_by_brute_force() {
+    let (mut with_ties, mut with_overflow, mut three_branches) = (0, 0, 0);
+    for seed in 0..400 {
+        let drawn = draw(seed, Some(Kind::Tiny), Some(Damage::None));
+        let lent = drawn.job.need();
+        let plan = answer(&drawn.text, lent).unwrap();
+        let returned = held(&Second, &drawn.text, lent, &Ok(plan.clone()), seed).unwrap();
+        brute::check(&drawn.job, &plan.order, &plan.layers.concat(), &returned).unwrap();
+        with_ties += usize::from(plan.order.windows(2).any(|pair| pair[0].score == pair[1].score));
+        with_overflow += usize::from(plan.total_overflow > 0);
+        let walks = drawn.job.nets.iter().map(|net| second::plan::walk(drawn.job.grid, net));
+        three_branches += usize::from(walks.flatten().any(|step| step.branches.len() == 3));
+    }
+    assert!(
+        with_ties > 20 && with_overflow > 100 && three_branches > 20,
+        "{with_ties} {with_overflow} {three_branches}"
+    );
+}
+
+/// Every damage on every kind but the largest ones: where the refusal is known beforehand, it is that.
+#[test]
+fn damages() {
+    for (place, (name, kind)) in KINDS.iter().enumerate() {
+        for (number, (damage_name, damage)) in DAMAGES.iter().enumerate() {
+            let rounds = if [Kind::Tiny, Kind::Congested, Kind::Branchy].contains(kind) { 10 } else { 1 };
+            for round in 0..rounds {
+                let seed = (place * 1_000_000 + number * 1000 + round) as u64;
+                let drawn = draw(seed, Some(*kind), Some(*damage));
+                let mut ample = drawn.job.need();
+                ample.order += 2;
+                for lent in [drawn.lent, ample, Lengths { print: None, ..ample }] {
+                    if let Some(outcome) = drawn.outcome(lent) {
+                        assert_eq!(read(&drawn.text, lent).err(), outcome, "{name}/{damage_name}, seed {seed}");
+                    }
+                }
+            }
+        }
+    }
+}
+
+#[test]
+fn every_kind_is_read_as_drawn() {
+    for (name, kind) in KINDS {
+        for seed in 0..4 {
+            let drawn = draw(seed, Some(kind), Some(Damage::None));
+            assert_eq!(read(&drawn.text, drawn.job.need()).as_ref(), Ok(&drawn.job), "{name}, seed {seed}");
+            assert_eq!(write(&drawn.job), draw(seed, Some(kind), Some(Damage::None)).text);
+            if kind == Kind::Full {
+                assert_eq!(drawn.text.len(), TEXT_LIMIT);
+            }
+        }
+    }
+}
