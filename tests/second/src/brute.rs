@@ -1,5 +1,10 @@
 //! Demand 3 and the tie rule in their own words, for tiny jobs: all layerings of all nets are looked at one by one.
 //! Nothing here uses the planner; what it takes is the job, the order list, the answer list and the returned numbers.
+//!
+//! Of all legal choices with the fewest vias, the first in walk order is in fact the lowest on each single edge: take of
+//! two such choices the lower layer on each edge, and in another choice the higher one. Both are legal, and as highest
+//! and lowest of a tile go, the two together have no more vias than the first two. So both have the fewest too. It
+//! follows that any order of the edges gives the same plan, and that a wrong walk does not show in a plan.
 
 use crate::calls::Returned;
 use crate::job::{Job, Net};
@@ -60,7 +65,7 @@ fn vias(job: &Job, net: &Net, choice: &[u8]) -> u64 {
 
 /// The places on the `edges` line in walk order. Breadth first means: by the number of steps from the lowest-numbered
 /// tile, and of equally far tiles the one whose way there comes first, east before north before west before south.
-fn walk_order(job: &Job, net: &Net) -> Vec<usize> {
+pub fn walk_order(job: &Job, net: &Net) -> Vec<usize> {
     fn go(
         job: &Job,
         net: &Net,
@@ -191,6 +196,9 @@ pub fn check(job: &Job, order: &[Entry], answer: &[u8], returned: &Returned) -> 
         let ties = legal.iter().filter(|choice| Some(cost(choice)) == fewest);
         let first = ties.min_by_key(|choice| walk.iter().map(|place| choice[*place]).collect::<Vec<u8>>());
         claim(first.map(Vec::as_slice) == Some(chosen), "of the cheapest choices, the first in walk order")?;
+        let mut ties = legal.iter().filter(|choice| Some(cost(choice)) == fewest);
+        let lowest = ties.all(|choice| choice.iter().zip(chosen).all(|(other, layer)| layer <= other));
+        claim(lowest, "of the cheapest choices, the lowest on each edge")?;
     }
     Ok(count)
 }

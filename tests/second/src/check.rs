@@ -1,9 +1,10 @@
 //! What can be checked of a plan of any size, in other words and with another method than the planner's: the overflow
 //! numbers, the order, that each layer was legal at its net's turn, and for each tile of each net, by spans of layers
 //! instead of combinations, that no choice has fewer vias and that none with as few comes before it in walk order.
+//! The walks are compared as such: plans alone would not show a wrong walk (see `brute`).
 
 use crate::job::{Job, Net};
-use crate::plan::{vias, Plan};
+use crate::plan::{vias, walk, Plan};
 
 fn claim(holds: bool, what: impl Fn() -> String) -> Result<(), String> {
     if holds {
@@ -43,9 +44,11 @@ impl Metal<'_> {
 
 /// A tile of a net with the edge above it.
 struct Place {
+    tile: usize,
     edge: Option<usize>,
-    /// The pins' layers, and the layer that the plan gives to the edge above.
+    /// The layers of the pins in the tile.
     fixed: Vec<u8>,
+    /// The layer that the plan gives to the edge above.
     layer: u8,
     branches: Vec<usize>,
     /// By layer of the edge above: the fewest vias here and below, where that layer is allowed.
@@ -72,7 +75,7 @@ fn places(job: &Job, net: &Net, layers: &[u8]) -> Vec<Place> {
             let place = places.len();
             let fixed = std::mem::take(&mut pins[tile]);
             let layer = edge.map_or(0, |edge: usize| std::mem::take(&mut given[edge]));
-            places.push(Place { edge, fixed, layer, branches: Vec::new(), fewest: [None; 9] });
+            places.push(Place { tile, edge, fixed, layer, branches: Vec::new(), fewest: [None; 9] });
             if place > 0 {
                 places[above].branches.push(place);
             }
@@ -116,6 +119,10 @@ fn check_net(metal: &Metal, net: &Net, layers: &[u8]) -> Result<(), String> {
     }
     let mut places = places(metal.job, net, layers);
     claim(places.len() == net.edges.len() + 1, || "the walk misses an edge".to_string())?;
+    let steps = walk(metal.job.grid, net);
+    let same =
+        places.iter().map(|p| (p.tile, p.edge, &p.branches)).eq(steps.iter().map(|s| (s.tile, s.edge, &s.branches)));
+    claim(same, || "the walk".to_string())?;
     for place in (1..places.len()).rev() {
         let edge = places[place].edge.unwrap();
         for layer in (1..=stack).filter(|layer| metal.allows(edge, *layer)) {
@@ -161,7 +168,7 @@ pub fn check(job: &Job, plan: &Plan) -> Result<(), String> {
     let tracks: Vec<u64> = (0..edges).map(|e| job.capacity.iter().map(|layer| layer[e]).sum()).collect();
     let flat: Vec<u64> = (0..edges).map(|e| demand[e].max(tracks[e]) - tracks[e]).collect();
     let most = flat.iter().copied().max().unwrap_or(0);
-    let limit = (most + job.layers as u64 - 1) / job.layers as u64;
+    let limit = (0..).find(|limit| limit * job.layers as u64 >= most).unwrap();
     let mut metal = Metal { job, flat, limit, load: vec![vec![0; job.layers]; edges] };
 
     claim(plan.order.len() == job.nets.len() && plan.layers.len() == job.nets.len(), || "lengths".to_string())?;

@@ -4,6 +4,7 @@
 use crate::calls::{answer, held, Planner};
 use crate::gen::{draw, Drawn, Kind};
 use crate::job::{read, Lengths};
+use crate::plan::walk;
 use crate::{brute, check};
 use std::fmt;
 
@@ -87,6 +88,12 @@ impl Summary {
             self.most_vias = self.most_vias.max(plan.total_vias);
             if brute::layerings(job, BRUTE_MOST).is_some() && job.nets.len() <= 20 {
                 self.layerings += brute::check(job, &plan.order, &plan.layers.concat(), &returned)?;
+                for net in &job.nets {
+                    let edges = brute::walk_order(job, net).into_iter().map(|place| net.edges[place]);
+                    if !edges.eq(walk(job.grid, net).iter().filter_map(|step| step.edge)) {
+                        return Err("the walk is not in the order of the ways to its tiles".to_string());
+                    }
+                }
                 self.brute += 1;
             }
         }
