@@ -1,5 +1,7 @@
 //! The two calls, Plan and Print, over lent buffers. Any other planner that is to be held against this one implements
-//! `Planner`; a library with a C interface needs a thin implementation that passes pointers and lengths on.
+//! `Planner`; a library with a C interface needs a thin implementation that passes pointers and lengths on (and, where
+//! its order list is two lists, copies them to and from the entries). `held` compares one call of it, and
+//! `run::Summary::add` compares both calls on a drawn job.
 
 use crate::gen::Rng;
 use crate::job::{self, Lengths, Refusal};
