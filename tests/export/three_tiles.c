@@ -1,0 +1,149 @@
+/*
+ * Plans a job through include/layerplan.h and compares: three_tiles JOB PLAN, where JOB is examples/three-tiles.job and
+ * PLAN the printed plan that it must give. Every buffer has a few elements more than the job needs, and all are filled
+ * before each call, so that what must stay unchanged is seen to.
+ */
+#include "layerplan.h"
+
+#include <stdio.h>
+#include <stdlib.h>
+#include <string.h>
+
+enum {
+    WIDTH = 3, HEIGHT = 1, LAYERS = 2, NETS = 2, ENTRIES = 3,
+    MORE = 5,      /* elements beyond what is needed */
+    FILLED = 0xa5, /* each byte of each buffer before a call */
+    TEXT = 4096
+};
+
+#define WORK LAYERPLAN_WORK(WIDTH, HEIGHT, LAYERS)
+#define PRINT LAYERPLAN_PRINT(NETS, ENTRIES)
+
+static uint32_t work[WORK + MORE], nets[NETS + MORE];
+static uint64_t scores[NETS + MORE];
+static uint8_t answer[ENTRIES + MORE], print[PRINT + MORE];
+
+static void expect(int holds, const char *what)
+{
+    if (!holds) {
+        fprintf(stderr, "three_tiles: %s\n", what);
+        exit(1);
+    }
+}
+
+static size_t load(const char *name, uint8_t *text)
+{
+    FILE *file = fopen(name, "rb");
+    expect(file != NULL, name);
+    size_t length = fread(text, 1, TEXT, file);
+    expect(length < TEXT && !ferror(file), name);
+    fclose(file);
+    return length;
+}
+
+static void fill(void)
+{
+    memset(work, FILLED, sizeof work);
+    memset(nets, FILLED, sizeof nets);
+    memset(scores, FILLED, sizeof scores);
+    memset(answer, FILLED, sizeof answer);
+    memset(print, FILLED, sizeof print);
+}
+
+/* Whether all bytes from `from` to the end of a buffer are this one. */
+static int all(const void *buffer, size_t from, size_t end, uint8_t byte)
+{
+    const uint8_t *bytes = buffer;
+    while (from < end && bytes[from] == byte)
+        from++;
+    return from == end;
+}
+
+static int same(layerplan_result r, uint64_t number, uint64_t line, uint64_t vias, uint64_t total, uint64_t maximum,
+                uint64_t length)
+{
+    return r.number == number && r.line == line && r.vias == vias && r.total == total && r.maximum == maximum
+        && r.length == length;
+}
+
+/* The order list and the answer list of the job, and that nothing else was written. */
+static void expect_plan(void)
+{
+    expect(all(work, 0, sizeof work, 0), "working numbers after a plan");
+    expect(nets[0] == 2 && nets[1] == 1, "net numbers of the order list");
+    expect(scores[0] == 3000 && scores[1] == 2500, "scores of the order list");
+    expect(answer[0] == 2 && answer[1] == 1 && answer[2] == 1, "answer list");
+    expect(all(nets, NETS * sizeof *nets, sizeof nets, FILLED), "net numbers beyond the order list");
+    expect(all(scores, NETS * sizeof *scores, sizeof scores, FILLED), "scores beyond the order list");
+    expect(all(answer, ENTRIES, sizeof answer, FILLED), "bytes beyond the answer list");
+}
+
+/* Nothing but the working numbers was written. */
+static void expect_refusal(void)
+{
+    expect(all(work, 0, sizeof work, 0), "working numbers after a refusal");
+    expect(all(nets, 0, sizeof nets, FILLED), "net numbers after a refusal");
+    expect(all(scores, 0, sizeof scores, FILLED), "scores after a refusal");
+    expect(all(answer, 0, sizeof answer, FILLED), "answer list after a refusal");
+    expect(all(print, 0, sizeof print, FILLED), "print buffer after a refusal");
+}
+
+int main(int count, char **names)
+{
+    static uint8_t job[TEXT], plan[TEXT];
+    expect(count == 3, "usage: three_tiles JOB PLAN");
+    size_t job_length = load(names[1], job), plan_length = load(names[2], plan);
+    layerplan_result r;
+
+    /* the lengths of the header's formulas, written out */
+    expect(WORK == 108 && PRINT == 390, "lengths needed");
+    expect(LAYERPLAN_WORK_MOST == 276224 && LAYERPLAN_PRINT_MOST == 611924, "lengths for every job");
+
+    /* each call with exactly what is needed, and with more */
+    for (size_t more = 0; more <= MORE; more += MORE) {
+        fill();
+        r = layerplan_plan(job, job_length, work, WORK + more, nets, NETS + more, scores, NETS + more,
+                           answer, ENTRIES + more);
+        expect(same(r, 0, 0, 2, 0, 0, 0), "numbers of layerplan_plan");
+        memset(work + WORK + more, 0, (MORE - more) * sizeof *work); /* not lent */
+        expect_plan();
+        expect(all(print, 0, sizeof print, FILLED), "print buffer after layerplan_plan");
+
+        fill();
+        r = layerplan_print(job, job_length, work, WORK + more, nets, NETS + more, scores, NETS + more,
+                            answer, ENTRIES + more, print, PRINT + more);
+        expect(same(r, 0, 0, 2, 0, 0, plan_length), "numbers of layerplan_print");
+        memset(work + WORK + more, 0, (MORE - more) * sizeof *work);
+        expect_plan();
+        expect(memcmp(print, plan, plan_length) == 0, "printed text");
+        expect(all(print, plan_length, sizeof print, FILLED), "bytes beyond the printed text");
+    }
+
+    /* no text, and buffers without elements: their pointers are not null */
+    fill();
+    r = layerplan_print(job, 0, work, WORK + MORE, nets, 0, scores, 0, answer, 0, print, 0);
+    expect(same(r, 2, 1, 0, 0, 0, 0), "an empty text");
+    expect_refusal();
+
+    /* one of each too short; of the two lists of the order list, the shorter one counts */
+    const struct { size_t work, nets, scores, answer, print; uint64_t number, line; } lent[] = {
+        {0, NETS, NETS, ENTRIES, PRINT, 9, 3},
+        {WORK - 1, NETS, NETS, ENTRIES, PRINT, 9, 3},
+        {WORK, NETS - 1, NETS, ENTRIES, PRINT, 10, 11},
+        {WORK, NETS, NETS - 1, ENTRIES, PRINT, 10, 11},
+        {WORK, NETS, NETS, ENTRIES - 1, PRINT, 11, 17},
+        {WORK, NETS, NETS, ENTRIES, PRINT - 1, 11, 17},
+    };
+    for (size_t i = 0; i < sizeof lent / sizeof *lent; i++) {
+        fill();
+        r = layerplan_print(job, job_length, work, lent[i].work, nets, lent[i].nets, scores, lent[i].scores,
+                            answer, lent[i].answer, print, lent[i].print);
+        expect(same(r, lent[i].number, lent[i].line, 0, 0, 0, 0), "a buffer too short");
+        expect(all(work, lent[i].work * sizeof *work, sizeof work, FILLED), "working numbers that were not lent");
+        memset(work + lent[i].work, 0, sizeof work - lent[i].work * sizeof *work);
+        expect_refusal();
+    }
+
+    puts("three_tiles: both calls give the plan through include/layerplan.h");
+    return 0;
+}
