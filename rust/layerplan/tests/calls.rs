@@ -1,0 +1,175 @@
+//! Both calls on the example job and on refused ones.
+
+use layerplan::{plan, print, Lengths, Printed, Refusal, Totals, NETS_MOST, TEXT_MOST};
+
+const JOB: &[u8] = include_bytes!("../../../examples/three-tiles.job");
+const PLAN: &[u8] = include_bytes!("../../../examples/three-tiles.plan");
+const TOTALS: Totals = Totals { vias: 2, overflow: 0, maximum: 0 };
+
+/// Slices to lend, all filled with something.
+struct Lent {
+    work: Vec<u32>,
+    nets: Vec<u32>,
+    scores: Vec<u64>,
+    answer: Vec<u8>,
+    out: Vec<u8>,
+}
+
+impl Lent {
+    fn new(lengths: Lengths) -> Lent {
+        Lent {
+            work: vec![0xa5a5_a5a5; lengths.work],
+            nets: vec![77; lengths.order],
+            scores: vec![88; lengths.order],
+            answer: vec![99; lengths.answer],
+            out: vec![b'.'; lengths.print],
+        }
+    }
+
+    fn plan(&mut self, text: &[u8]) -> Result<Totals, Refusal> {
+        plan(text, &mut self.work, &mut self.nets, &mut self.scores, &mut self.answer)
+    }
+
+    fn print(&mut self, text: &[u8]) -> Result<Printed, Refusal> {
+        print(text, &mut self.work, &mut self.nets, &mut self.scores, &mut self.answer, &mut self.out)
+    }
+
+    /// That nothing was written but the working numbers, which are 0.
+    fn untouched(&self) -> bool {
+        let lists = self.nets.iter().all(|net| *net == 77) && self.scores.iter().all(|score| *score == 88);
+        let bytes = self.answer.iter().all(|layer| *layer == 99) && self.out.iter().all(|byte| *byte == b'.');
+        self.work.iter().all(|number| *number == 0) && lists && bytes
+    }
+}
+
+#[test]
+fn the_example() {
+    let need = Lengths::needed(3, 1, 2, 2, 3);
+    assert_eq!(need, Lengths { work: 108, order: 2, answer: 3, print: 390 });
+    for more in [0, 4] {
+        let lengths = Lengths {
+            work: need.work + more,
+            order: need.order + more,
+            answer: need.answer + more,
+            print: need.print + more,
+        };
+        let mut planned = Lent::new(lengths);
+        assert_eq!(planned.plan(JOB), Ok(TOTALS));
+        assert!(planned.out.iter().all(|byte| *byte == b'.'));
+
+        let mut lent = Lent::new(lengths);
+        assert_eq!(lent.print(JOB), Ok(Printed { totals: TOTALS, length: PLAN.len() }));
+        assert_eq!(lent.work, vec![0; lengths.work]);
+        assert_eq!(lent.nets, [&[2, 1][..], &vec![77; more]].concat());
+        assert_eq!(lent.scores, [&[3000, 2500][..], &vec![88; more]].concat());
+        assert_eq!(lent.answer, [&[2, 1, 1][..], &vec![99; more]].concat());
+        assert_eq!(lent.out[..PLAN.len()], *PLAN);
+        assert!(lent.out[PLAN.len()..].iter().all(|byte| *byte == b'.'));
+
+        assert_eq!((planned.work, planned.nets), (lent.work, lent.nets));
+        assert_eq!((planned.scores, planned.answer), (lent.scores, lent.answer));
+    }
+}
+
+#[test]
+fn too_short() {
+    let need = Lengths::needed(3, 1, 2, 2, 3);
+    let refusal = |lengths: Lengths| {
+        let mut lent = Lent::new(lengths);
+        let refusal = lent.print(JOB).unwrap_err();
+        assert!(lent.untouched());
+        (refusal.number, refusal.line)
+    };
+    assert_eq!(refusal(Lengths { work: 107, ..need }), (9, 3));
+    assert_eq!(refusal(Lengths { order: 1, ..need }), (10, 11));
+    assert_eq!(refusal(Lengths { answer: 2, ..need }), (11, 17));
+    assert_eq!(refusal(Lengths { print: 389, ..need }), (11, 17));
+    assert_eq!(Lent::new(Lengths { print: 0, ..need }).plan(JOB), Ok(TOTALS)); // Plan borrows no print buffer
+}
+
+#[test]
+fn the_shorter_list_counts() {
+    let need = Lengths::needed(3, 1, 2, 2, 3);
+    for (nets, scores) in [(1, 2), (2, 1), (0, 5), (5, 0)] {
+        let mut lent = Lent::new(need);
+        (lent.nets, lent.scores) = (vec![77; nets], vec![88; scores]);
+        assert_eq!(lent.plan(JOB), Err(Refusal { number: 10, line: 11 }));
+        assert!(lent.untouched());
+    }
+    let mut lent = Lent::new(need);
+    (lent.nets, lent.scores) = (vec![77; 4], vec![88; 3]);
+    assert_eq!(lent.plan(JOB), Ok(TOTALS));
+    assert_eq!((lent.nets, lent.scores), (vec![2, 1, 77, 77], vec![3000, 2500, 88]));
+}
+
+#[test]
+fn empty_slices() {
+    let empty = || Lent::new(Lengths { work: 0, order: 0, answer: 0, print: 0 });
+    assert_eq!(empty().plan(b""), Err(Refusal { number: 2, line: 1 }));
+    assert_eq!(empty().print(b""), Err(Refusal { number: 2, line: 1 }));
+    assert_eq!(plan(&[], &mut [], &mut [], &mut [], &mut []), Err(Refusal { number: 2, line: 1 }));
+    assert_eq!(empty().plan(JOB), Err(Refusal { number: 9, line: 3 }));
+
+    // one tile and no nets: order list and answer list may be empty
+    let job = b"width=1\nheight=1\nlayers=2\nalpha=0\nbeta=0\ngamma=0\neast=\nnorth=\neast=\nnorth=\nnets=0\n";
+    let mut lent = Lent::new(Lengths::needed(1, 1, 2, 0, 0));
+    let totals = Totals { vias: 0, overflow: 0, maximum: 0 };
+    assert_eq!(lent.plan(job), Ok(totals));
+    let printed = lent.print(job).unwrap();
+    let text = b"order=\ntotal_vias=0\ntotal_overflow=0\nmax_overflow=0\n";
+    assert_eq!((printed.totals, &lent.out[..printed.length]), (totals, &text[..]));
+}
+
+#[test]
+fn refusals() {
+    let refused = |text: &[u8]| {
+        let mut lent = Lent::new(Lengths::enough(text.len()));
+        let refusal = lent.plan(text).unwrap_err();
+        assert!(lent.untouched());
+        refusal
+    };
+    let with = |from: &str, to: &str| {
+        let refusal = refused(std::str::from_utf8(JOB).unwrap().replacen(from, to, 1).as_bytes());
+        (refusal.number, refusal.line)
+    };
+    assert_eq!(refused(&vec![10; TEXT_MOST + 1]), Refusal { number: 1, line: 0 });
+    assert_eq!(with("alpha=1", "alpha=01"), (2, 4));
+    assert_eq!(with("layers=2", "layers=9"), (3, 3));
+    assert_eq!(with("net=2", "net=3"), (4, 15));
+    assert_eq!(with("2,0,1", "0,0,1"), (5, 13));
+    assert_eq!(with("1,0,e", "0,0,e"), (6, 14));
+    assert_eq!(with("edges=0,0,e;1,0,e", "edges=1,0,e"), (8, 14));
+    let words = Refusal { number: 9, line: 3 }.to_string();
+    assert_eq!(words, "refused=9,3: fewer working numbers than needed");
+}
+
+#[test]
+fn lengths() {
+    assert_eq!(Lengths::needed(64, 64, 8, 0, 0).work, 276_224);
+    assert_eq!(Lengths::enough(usize::MAX), Lengths::enough(TEXT_MOST));
+    let most = Lengths { work: 276_224, order: NETS_MOST, answer: TEXT_MOST / 6, print: 611_924 };
+    assert_eq!(Lengths::enough(TEXT_MOST), most);
+
+    // the shortest nets with an edge
+    let head = "width=2\nheight=1\nlayers=2\nalpha=0\nbeta=0\ngamma=0\neast=0\nnorth=\neast=0\nnorth=\nnets=9\n";
+    let nets: String = (1..=9).map(|net| format!("net={net}\npins=0,0,1\nedges=0,0,e\n")).collect();
+    let text = format!("{head}{nets}");
+    assert!(Lent::new(Lengths::enough(text.len())).print(text.as_bytes()).is_ok());
+}
+
+/// A job of the largest grid in a thread with a small stack: a call takes about 100 KB of it.
+#[test]
+fn little_stack() {
+    let list = |count: usize| vec!["1"; count].join(",");
+    let layer = format!("east={}\nnorth={}\n", list(63 * 64), list(64 * 63));
+    let edges: Vec<String> = (0..63).map(|x| format!("{x},0,e")).collect();
+    let net = format!("net=1\npins=0,0,1;63,0,8\nedges={}\n", edges.join(";"));
+    let head = "width=64\nheight=64\nlayers=8\nalpha=1\nbeta=1\ngamma=1\n";
+    let text = format!("{head}{}nets=1\n{net}", layer.repeat(8));
+    let run = move || {
+        let mut lent = Lent::new(Lengths::needed(64, 64, 8, 1, 63));
+        lent.print(text.as_bytes()).map(|printed| printed.totals)
+    };
+    let thread = std::thread::Builder::new().stack_size(128 * 1024).spawn(run).unwrap();
+    assert_eq!(thread.join().unwrap(), Ok(Totals { vias: 7, overflow: 0, maximum: 0 }));
+}
