@@ -64,9 +64,11 @@ pub enum Kind {
     Short,
     /// A text of exactly as many bytes as are read.
     Full,
+    /// The same with the largest grid, the most layers and the most nets. It is drawn only where it is asked for.
+    Largest,
 }
 
-pub const KINDS: [(&str, Kind); 8] = [
+pub const KINDS: [(&str, Kind); 9] = [
     ("tiny", Kind::Tiny),
     ("congested", Kind::Congested),
     ("plenty", Kind::Plenty),
@@ -75,6 +77,7 @@ pub const KINDS: [(&str, Kind); 8] = [
     ("giant", Kind::Giant),
     ("short", Kind::Short),
     ("full", Kind::Full),
+    ("largest", Kind::Largest),
 ];
 
 /// How a tree of edges grows.
@@ -196,6 +199,7 @@ pub fn job(rng: &mut Rng, kind: Kind) -> Job {
         Kind::Giant => (16, 64),
         Kind::Short => (2, 64),
         Kind::Full => (40, 64),
+        Kind::Largest => (64, 64),
     };
     let (mut width, mut height) = (side(rng, low, high), side(rng, low, high));
     if kind == Kind::Thin {
@@ -207,7 +211,7 @@ pub fn job(rng: &mut Rng, kind: Kind) -> Job {
         }
     }
     let grid = Grid { width, height };
-    let layers = side(rng, 2, 8);
+    let layers = if kind == Kind::Largest { 8 } else { side(rng, 2, 8) };
     let weight = |rng: &mut Rng| match rng.below(6) {
         0 | 1 => 0,
         2 => 1,
@@ -220,7 +224,7 @@ pub fn job(rng: &mut Rng, kind: Kind) -> Job {
     let tracks = match kind {
         Kind::Plenty => rng.pick(&[20, 100, 255]),
         Kind::Short => rng.pick(&[1, 3, 30, 255]),
-        Kind::Full => 9,
+        Kind::Full | Kind::Largest => 9,
         _ => rng.pick(&[0, 1, 1, 2, 3]),
     };
     let zeros = rng.pick(&[0, 1, 4, 7]);
@@ -241,9 +245,10 @@ pub fn job(rng: &mut Rng, kind: Kind) -> Job {
         Kind::Thin => rng.pick(&[0, 0, 1, 2, 50, 4096]),
         Kind::Giant => rng.range(1, 8),
         Kind::Short => rng.pick(&[500, 1000, 3000, 4095, 4096]),
-        Kind::Full => 4096,
+        Kind::Full | Kind::Largest => 4096,
     };
-    let mut left = if kind == Kind::Full { TEXT_LIMIT - write(&job).len() - 3 } else { TEXT_LIMIT };
+    let full = [Kind::Full, Kind::Largest].contains(&kind);
+    let mut left = if full { TEXT_LIMIT - write(&job).len() - 3 } else { TEXT_LIMIT };
     let short = kind == Kind::Full && rng.chance(1, 2); // many short nets fill the text, else fewer long ones
     for _ in 0..nets {
         // 16 bytes for each edge and its pin, and as many for the net itself, are enough
@@ -269,6 +274,8 @@ pub fn job(rng: &mut Rng, kind: Kind) -> Job {
             Kind::Short => rng.range(0, 6),
             Kind::Full if short => rng.range(20, 60).min(room - 4),
             Kind::Full => rng.range(1, grid.tiles()).min(room - 4),
+            // an edge and its part of the pins take about ten bytes, and each net has its share of what is left
+            Kind::Largest => rng.range(0, left / (nets - job.nets.len()) / 6).min(room - 4),
         };
         let growth = match kind {
             Kind::Tiny if crosses => Growth::Bush,
@@ -283,7 +290,7 @@ pub fn job(rng: &mut Rng, kind: Kind) -> Job {
         left -= lines.len();
         job.nets.push(net);
     }
-    if kind == Kind::Full {
+    if full {
         fill(&mut job);
     }
     job

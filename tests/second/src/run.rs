@@ -2,7 +2,7 @@
 //! lent buffer, the plan by `check`, and on tiny jobs by `brute`.
 
 use crate::calls::{answer, held, Planner};
-use crate::gen::{draw, Drawn, Kind};
+use crate::gen::{draw, Drawn};
 use crate::job::{read, Lengths};
 use crate::plan::walk;
 use crate::{brute, check};
@@ -52,7 +52,8 @@ impl Summary {
         })
     }
 
-    fn add_drawn(&mut self, planner: &dyn Planner, drawn: &Drawn, seed: u64) -> Result<(), String> {
+    /// Holds the planner to a job that is drawn already. The seed is that of what the buffers hold before each call.
+    pub fn add_drawn(&mut self, planner: &dyn Planner, drawn: &Drawn, seed: u64) -> Result<(), String> {
         let Drawn { job, text, lent, .. } = drawn;
         self.jobs += 1;
         self.damaged += u64::from(*text != crate::gen::write(job));
@@ -81,7 +82,7 @@ impl Summary {
             check::check(job, &plan)?;
             self.accepted += 1;
             self.with_overflow += u64::from(plan.total_overflow > 0);
-            self.full += u64::from(drawn.kind == Kind::Full && text.len() == crate::job::TEXT_LIMIT);
+            self.full += u64::from(text.len() == crate::job::TEXT_LIMIT);
             self.largest_text = self.largest_text.max(text.len());
             self.most_nets = self.most_nets.max(job.nets.len());
             self.most_edges = self.most_edges.max(job.entries());

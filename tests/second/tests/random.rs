@@ -3,7 +3,7 @@
 use second::brute;
 use second::calls::{answer, held, Second};
 use second::gen::{draw, write, Damage, Kind, DAMAGES, KINDS};
-use second::job::{read, Lengths, TEXT_LIMIT};
+use second::job::{read, Job, Lengths, TEXT_LIMIT};
 use second::run::Summary;
 
 #[test]
@@ -65,8 +65,12 @@ fn every_kind_is_read_as_drawn() {
             let drawn = draw(seed, Some(kind), Some(Damage::None));
             assert_eq!(read(&drawn.text, drawn.job.need()).as_ref(), Ok(&drawn.job), "{name}, seed {seed}");
             assert_eq!(write(&drawn.job), draw(seed, Some(kind), Some(Damage::None)).text);
-            if kind == Kind::Full {
+            if [Kind::Full, Kind::Largest].contains(&kind) {
                 assert_eq!(drawn.text.len(), TEXT_LIMIT);
+            }
+            if kind == Kind::Largest {
+                let Job { grid, layers, nets, .. } = &drawn.job;
+                assert_eq!((grid.width, grid.height, *layers, nets.len()), (64, 64, 8, 4096));
             }
         }
     }

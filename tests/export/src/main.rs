@@ -1,0 +1,188 @@
+//! `compare [SEED] [COUNT]` holds the proved library to the second planner on the jobs of the seeds SEED, SEED + 1 and
+//! so on, each drawn from its seed alone: both calls, what they return, and all that every lent buffer then holds. A
+//! seed that 500 divides gives a job of the largest size. The first difference ends the run, and its seed is told.
+
+mod library;
+mod walk;
+
+use library::{Library, Wrapped};
+use second::calls::{answer, held, Planner};
+use second::gen::{draw, Damage, Drawn, Kind};
+use second::job::{read, Lengths};
+use second::run::Summary;
+use std::panic::{catch_unwind, AssertUnwindSafe};
+use std::process::exit;
+use std::time::Instant;
+
+extern "C" {
+    fn tell_crashes() -> std::ffi::c_int;
+    fn tell_seed(seed: u64);
+}
+
+/// The figures of a run.
+#[derive(Default)]
+struct Run {
+    drawn: Summary,
+    /// Largest jobs, all accepted.
+    largest: usize,
+    /// Calls with two lists of unequal length, and calls through the Rust wrapper.
+    uneven: usize,
+    wrapped: usize,
+    /// Jobs and nets whose walks were compared.
+    watched: usize,
+    walks: usize,
+}
+
+/// The job of a seed.
+fn drawn(seed: u64) -> Drawn {
+    if seed % 500 > 0 {
+        return draw(seed, None, None);
+    }
+    let largest = draw(seed, Some(Kind::Largest), Some(Damage::None));
+    Drawn { lent: largest.job.need(), ..largest }
+}
+
+impl Run {
+    /// All that is compared on the job of a seed.
+    fn add(&mut self, seed: u64) -> Result<(), String> {
+        let drawn = drawn(seed);
+        let Drawn { text, lent, .. } = &drawn;
+        self.drawn.add_drawn(&Library::default(), &drawn, seed)?;
+        if drawn.kind == Kind::Largest {
+            self.largest += 1;
+        }
+
+        let plan_lent = Lengths { print: None, ..*lent };
+        let (planned, printed) = (answer(text, plan_lent), answer(text, *lent));
+        let both = |planner: &dyn Planner, seed: u64, calls: &mut usize| {
+            held(planner, text, plan_lent, &planned, seed)?;
+            held(planner, text, *lent, &printed, seed)?;
+            *calls += 2;
+            Ok::<(), String>(())
+        };
+        let more = 1 + (seed % 7) as usize;
+        for (nets_more, scores_more) in [(more, 0), (0, more)] {
+            let library = Library { nets_more, scores_more, ..Library::default() };
+            let told = both(&library, seed + 1, &mut self.uneven).and(library.fault.take().map_or(Ok(()), Err));
+            told.map_err(|fault| format!("{nets_more} more net numbers, {scores_more} more scores: {fault}"))?;
+        }
+        both(&Wrapped, seed + 2, &mut self.wrapped).map_err(|fault| format!("through the wrapper: {fault}"))?;
+
+        let Ok(plan) = planned else { return Ok(()) };
+        let job = read(text, plan_lent).map_err(|refusal| format!("{refusal:?} after an accepted call"))?;
+        self.walks += walk::walks(text, &job, &plan, seed, second::plan::walk)?;
+        self.watched += 1;
+        Ok(())
+    }
+}
+
+fn main() {
+    let arguments: Vec<Option<u64>> = std::env::args().skip(1).map(|word| word.parse().ok()).collect();
+    let (first, count) = match arguments[..] {
+        [] => (1, 2000),
+        [Some(seed)] => (seed, 2000),
+        [Some(seed), Some(count)] => (seed, count),
+        _ => {
+            eprintln!("usage: compare [SEED] [COUNT]");
+            exit(2)
+        }
+    };
+    // SAFETY: both functions only set what a crash tells
+    assert_eq!(unsafe { tell_crashes() }, 0, "signals");
+    let start = Instant::now();
+    let mut run = Run::default();
+    for seed in (0..count).map(|place| first.wrapping_add(place)) {
+        unsafe { tell_seed(seed) };
+        let told = catch_unwind(AssertUnwindSafe(|| run.add(seed)));
+        let fault = match told {
+            Ok(Ok(())) => continue,
+            Ok(Err(fault)) => fault,
+            Err(_) => "a panic".to_string(),
+        };
+        print!("{}", run.drawn);
+        let Drawn { kind, damage, lent, .. } = drawn(seed);
+        println!("DIFFERENCE seed {seed} ({kind:?}, {damage:?}, {lent:?}): {fault}");
+        println!("again: tests/compare {seed} 1");
+        exit(1);
+    }
+    print!("{}", run.drawn);
+    println!("jobs of the largest size: {}", run.largest);
+    println!("calls with lists of unequal length: {}; through the Rust wrapper: {}", run.uneven, run.wrapped);
+    println!("walks compared: {} nets of {} jobs", run.walks, run.watched);
+    println!("seconds: {}", start.elapsed().as_secs());
+    println!("no difference");
+}
+
+#[cfg(test)]
+mod tests {
+    use super::*;
+    use second::calls::Returned;
+    use second::plan::Entry;
+
+    #[test]
+    fn a_wrong_walk_is_noticed() {
+        // three branches from one tile: east, north, west
+        let text = b"width=3\nheight=3\nlayers=2\nalpha=0\nbeta=0\ngamma=0\n\
+            east=9,9,9,9,9,9\nnorth=9,9,9,9,9,9\neast=9,9,9,9,9,9\nnorth=9,9,9,9,9,9\n\
+            nets=1\nnet=1\npins=1,0,1;0,1,2\nedges=1,0,n;0,1,e;1,1,e;1,1,n\n";
+        let ample = Lengths { work: 9999, order: 9, answer: 9, print: None };
+        let job = read(text, ample).unwrap();
+        let plan = answer(text, ample).unwrap();
+        let net = &job.nets[0];
+        let steps = second::plan::walk(job.grid, net);
+        let tiles: Vec<usize> = steps.iter().map(|step| step.tile).collect();
+        assert_eq!(tiles, [1, 4, 5, 7, 3]);
+        assert_eq!(walk::walks(text, &job, &plan, 5, second::plan::walk), Ok(1));
+        let swapped = |grid, net: &_| {
+            let mut steps = second::plan::walk(grid, net);
+            steps.swap(2, 3);
+            steps
+        };
+        assert!(walk::walks(text, &job, &plan, 5, swapped).unwrap_err().starts_with("walk of net 1"));
+        let mut other = plan.clone();
+        other.layers[0][0] ^= 1;
+        assert!(walk::walks(text, &job, &other, 5, second::plan::walk).is_err());
+    }
+
+    /// The library with one fault put in after each call.
+    struct Faulty(fn(&mut [u32], &mut [Entry], &mut Returned));
+
+    impl Planner for Faulty {
+        fn plan(&self, text: &[u8], work: &mut [u32], order: &mut [Entry], answer: &mut [u8]) -> Returned {
+            let mut returned = Library::default().plan(text, work, order, answer);
+            self.0(work, order, &mut returned);
+            returned
+        }
+
+        fn print(
+            &self,
+            text: &[u8],
+            work: &mut [u32],
+            order: &mut [Entry],
+            answer: &mut [u8],
+            print: &mut [u8],
+        ) -> Returned {
+            let mut returned = Library::default().print(text, work, order, answer, print);
+            self.0(work, order, &mut returned);
+            returned
+        }
+    }
+
+    #[test]
+    fn faults_are_noticed() {
+        let text = include_bytes!("../../../examples/three-tiles.job");
+        let lent = Lengths { work: 110, order: 3, answer: 3, print: Some(390) };
+        let expected = answer(text, lent);
+        held(&Library::default(), text, lent, &expected, 1).unwrap();
+        held(&Wrapped, text, lent, &expected, 1).unwrap();
+        let faults: [Faulty; 4] = [
+            Faulty(|work, _, _| work[109] = 1),
+            Faulty(|_, order, _| order[1].score += 1),
+            Faulty(|_, order, _| order[2].net ^= 1),
+            Faulty(|_, _, returned| returned.length += 1),
+        ];
+        for fault in &faults {
+            assert!(held(fault, text, lent, &expected, 1).is_err());
+        }
+    }
+}
