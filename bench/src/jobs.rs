@@ -1,0 +1,205 @@
+//! The jobs: five families at four sizes, and those that show the growth. Each is made from a fixed seed.
+//!
+//! From one size to the next the grid's tiles, the bytes of the text and, where it is given, the number of nets grow
+//! fourfold, up to the limits of document 01: 64 × 64 tiles, 8 layers, 4,096 nets, 1,048,576 bytes.
+
+use second::gen::Rng;
+
+pub const FAMILIES: [&str; 5] = ["congested", "plenty", "branches", "giant", "short"];
+pub const SIZES: [usize; 4] = [1, 2, 3, 4];
+
+const LAYERS: usize = 8;
+const MOST_BYTES: usize = 1_048_576;
+
+type Tile = (usize, usize);
+
+/// An edge: its tile, and whether it goes east, else north.
+type Edge = (usize, usize, bool);
+
+fn shuffle<T>(rng: &mut Rng, list: &mut [T]) {
+    for place in (1..list.len()).rev() {
+        list.swap(place, rng.below(place + 1));
+    }
+}
+
+/// The edge between two neighbours.
+fn between(a: Tile, b: Tile) -> Edge {
+    let low = a.min(b);
+    (low.0, low.1, a.1 == b.1)
+}
+
+fn neighbours(side: usize, (x, y): Tile) -> Vec<Tile> {
+    let all = [(x + 1, y), (x, y + 1), (x.wrapping_sub(1), y), (x, y.wrapping_sub(1))];
+    all.into_iter().filter(|(x, y)| *x < side && *y < side).collect()
+}
+
+/// A tree of up to so many edges that grows from any of its tiles, or, where `deep`, on from the tile reached last.
+fn grown(rng: &mut Rng, side: usize, most: usize, deep: bool) -> Vec<Edge> {
+    let start = (rng.below(side), rng.below(side));
+    let mut inside = vec![false; side * side];
+    inside[start.1 * side + start.0] = true;
+    let (mut open, mut edges) = (vec![start], Vec::new());
+    while edges.len() < most && !open.is_empty() {
+        let place = if deep { open.len() - 1 } else { rng.below(open.len()) };
+        let mut free = neighbours(side, open[place]);
+        free.retain(|(x, y)| !inside[y * side + x]);
+        if free.is_empty() {
+            open.swap_remove(place);
+            continue;
+        }
+        let tile = rng.pick(&free);
+        inside[tile.1 * side + tile.0] = true;
+        edges.push(between(open[place], tile));
+        open.push(tile);
+    }
+    edges
+}
+
+/// A row or column of so many tiles with a tooth on both sides of each: all but two of its tiles have three branches.
+fn comb(rng: &mut Rng, side: usize, length: usize) -> Vec<Edge> {
+    let start = rng.below(side - length + 1);
+    let across = rng.range(1, side - 2);
+    let turned = rng.chance(1, 2);
+    let tile = |along: usize, across: usize| if turned { (across, along) } else { (along, across) };
+    let mut edges = Vec::new();
+    for along in start..start + length {
+        if along > start {
+            edges.push(between(tile(along - 1, across), tile(along, across)));
+        }
+        edges.push(between(tile(along, across), tile(along, across - 1)));
+        edges.push(between(tile(along, across), tile(along, across + 1)));
+    }
+    edges
+}
+
+/// All tiles: a column, rows from it on both sides, and teeth from every third row to the rows beside it.
+fn fishbone(rng: &mut Rng, side: usize) -> Vec<Edge> {
+    let trunk = rng.below(side);
+    let mut edges = Vec::new();
+    for y in 0..side {
+        for x in 0..side {
+            if x + 1 < side && y % 3 == 1 {
+                edges.push((x, y, true));
+            }
+            if y + 1 < side && (x == trunk || y % 3 != 2) {
+                edges.push((x, y, false));
+            }
+        }
+    }
+    edges
+}
+
+/// All tiles in one line, row by row to and fro.
+fn snake(side: usize) -> Vec<Edge> {
+    let row = |y: usize| (0..side).map(move |x| if y % 2 == 0 { (x, y) } else { (side - 1 - x, y) });
+    let tiles: Vec<Tile> = (0..side).flat_map(row).collect();
+    tiles.windows(2).map(|pair| between(pair[0], pair[1])).collect()
+}
+
+fn tiles_of(side: usize, edges: &[Edge]) -> Vec<Tile> {
+    let mut inside = vec![false; side * side];
+    let mut tiles = Vec::new();
+    for (x, y, east) in edges {
+        for (x, y) in [(*x, *y), if *east { (x + 1, *y) } else { (*x, y + 1) }] {
+            if !std::mem::replace(&mut inside[y * side + x], true) {
+                tiles.push((x, y));
+            }
+        }
+    }
+    tiles
+}
+
+/// The lines of a net: its edges in any order, and so many pins in its tiles.
+fn net(rng: &mut Rng, side: usize, number: usize, mut edges: Vec<Edge>, pins: usize) -> String {
+    let mut tiles = tiles_of(side, &edges);
+    shuffle(rng, &mut edges);
+    shuffle(rng, &mut tiles);
+    let pin = |(x, y): &Tile| format!("{x},{y},{}", rng.range(1, LAYERS));
+    let pins: Vec<String> = tiles[..pins.min(tiles.len())].iter().map(pin).collect();
+    let edge = |(x, y, east): &Edge| format!("{x},{y},{}", if *east { "e" } else { "n" });
+    let edges: Vec<String> = edges.iter().map(edge).collect();
+    format!("net={number}\npins={}\nedges={}\n", pins.join(";"), edges.join(";"))
+}
+
+/// The lines before `nets`, with capacities from `least` to `most`.
+fn head(rng: &mut Rng, side: usize, least: usize, most: usize) -> String {
+    let mut text = format!("width={side}\nheight={side}\nlayers={LAYERS}\nalpha=3\nbeta=2\ngamma=5\n");
+    for _ in 0..LAYERS {
+        for key in ["east", "north"] {
+            let list: Vec<String> = (0..side * (side - 1)).map(|_| rng.range(least, most).to_string()).collect();
+            text += &format!("{key}={}\n", list.join(","));
+        }
+    }
+    text
+}
+
+/// The job of a family at a size.
+pub fn job(family: &str, size: usize) -> String {
+    let place = FAMILIES.iter().position(|name| *name == family).expect("a family");
+    let rng = &mut Rng::new(1000 * place as u64 + size as u64);
+    let side = 4 << size;
+    let bytes = MOST_BYTES >> (2 * (4 - size));
+    let (least, most) = match family {
+        "congested" => (0, 2),
+        "plenty" => (30, 99),
+        _ => (0, 9),
+    };
+    let head = head(rng, side, least, most);
+    // what `nets` takes at most
+    let mut left = bytes - head.len() - "nets=4096\n".len();
+    let count = match family {
+        "congested" | "plenty" | "short" => 64 << (2 * (size - 1)),
+        _ => 4096,
+    };
+    let mut nets = Vec::new();
+    while nets.len() < count {
+        let edges = match family {
+            "congested" | "plenty" => {
+                // an entry has about 7.2 bytes at the largest size, and what else a net has about 50
+                let share = left.saturating_sub(300) / (count - nets.len());
+                let entry = if size < 3 { 6.2 } else { 7.3 };
+                let most = (share.saturating_sub(50) as f64 / entry * 2.0) as usize;
+                let length = rng.range(1, most.max(1));
+                grown(rng, side, length, false)
+            }
+            "branches" => {
+                let length = rng.range(3, side - 2);
+                comb(rng, side, length)
+            }
+            "giant" => match nets.len() % 4 {
+                0 => grown(rng, side, usize::MAX, false),
+                1 => fishbone(rng, side),
+                2 => grown(rng, side, usize::MAX, true),
+                _ => snake(side),
+            },
+            _ => {
+                let length = rng.range(1, 6);
+                grown(rng, side, length, false)
+            }
+        };
+        let pins = match family {
+            "branches" => edges.len() / 3,
+            "giant" => edges.len() / 16,
+            _ => rng.range(2, 5),
+        };
+        let net = net(rng, side, nets.len() + 1, edges, pins);
+        if net.len() > left {
+            break;
+        }
+        left -= net.len();
+        nets.push(net);
+    }
+    format!("{head}nets={}\n{}", nets.len(), nets.concat())
+}
+
+/// A job on the largest grid with so many nets of so many edges each.
+pub fn growth(nets: usize, edges: usize) -> String {
+    let rng = &mut Rng::new(77);
+    let mut text = head(rng, 64, 0, 9) + &format!("nets={nets}\n");
+    for number in 1..=nets {
+        let tree = grown(rng, 64, edges, false);
+        text += &net(rng, 64, number, tree, 3);
+    }
+    assert!(text.len() <= MOST_BYTES, "{} bytes", text.len());
+    text
+}

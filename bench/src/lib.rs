@@ -1,0 +1,137 @@
+//! The proved planner held against two planners in Rust, on jobs made by fixed seeds.
+//!
+//! - `jobs`: the jobs, in five families at four sizes, and those that show the growth.
+//! - `proved`: the proved planner, from its static library.
+//! - `plain`: the paper's algorithm written plainly.
+//! - `optimised`: a planner written for speed.
+
+pub mod jobs;
+pub mod optimised;
+pub mod plain;
+pub mod proved;
+
+use second::calls::Planner;
+use second::plan::Entry;
+
+/// What a call returns: number and line of a refusal, or the totals of the plan and the length of its print.
+#[repr(C)]
+#[derive(Clone, Copy, PartialEq, Eq, Debug, Default)]
+pub struct Returned {
+    pub number: u64,
+    pub line: u64,
+    pub vias: u64,
+    pub total: u64,
+    pub maximum: u64,
+    pub length: u64,
+}
+
+/// What a call borrows. The order list is two slices; there is no print buffer in the call Plan.
+pub struct Lent<'a> {
+    pub work: &'a mut [u32],
+    pub nets: &'a mut [u32],
+    pub scores: &'a mut [u64],
+    pub answer: &'a mut [u8],
+    pub print: Option<&'a mut [u8]>,
+}
+
+/// A planner.
+#[derive(Clone, Copy, PartialEq, Eq, Debug)]
+pub enum Which {
+    Proved,
+    Optimised,
+    Plain,
+}
+
+pub const PLANNERS: [(&str, Which); 3] =
+    [("proved", Which::Proved), ("optimised", Which::Optimised), ("plain", Which::Plain)];
+
+/// Calls a planner: Print where a print buffer is lent, else Plan.
+pub fn call(which: Which, text: &[u8], lent: Lent) -> Returned {
+    match which {
+        Which::Proved => proved::call(text, lent),
+        Which::Optimised => optimised::optimised_call(text, lent),
+        Which::Plain => plain::plain_call(text, lent),
+    }
+}
+
+/// A set of buffers, long enough for every job that is accepted.
+pub struct Buffers {
+    pub work: Vec<u32>,
+    pub nets: Vec<u32>,
+    pub scores: Vec<u64>,
+    pub answer: Vec<u8>,
+    pub print: Vec<u8>,
+}
+
+impl Buffers {
+    /// Buffers with just the lengths that Print needs for an accepted job.
+    pub fn needed(text: &[u8]) -> Buffers {
+        let value = |line: &[u8]| {
+            std::str::from_utf8(&line[line.iter().position(|b| *b == b'=').unwrap() + 1..])
+                .unwrap()
+                .parse::<usize>()
+                .unwrap()
+        };
+        let lines: Vec<&[u8]> = text.split(|byte| *byte == 10).collect();
+        let [w, h, k] = [value(lines[0]), value(lines[1]), value(lines[2])];
+        let nets = value(lines[6 + 2 * k]);
+        let edges = (w - 1) * h + w * (h - 1);
+        let lists = lines.iter().filter_map(|line| line.strip_prefix(b"edges="));
+        let entries: usize =
+            lists.filter(|list| !list.is_empty()).map(|list| 1 + list.iter().filter(|b| **b == b';').count()).sum();
+        Buffers {
+            work: vec![7; 2 * k * edges + 2 * edges + 32 * w * h],
+            nets: vec![7; nets],
+            scores: vec![7; nets],
+            answer: vec![7; entries],
+            print: vec![7; 256 + 64 * nets + 2 * entries],
+        }
+    }
+
+    pub fn lend(&mut self, print: bool) -> Lent<'_> {
+        let Buffers { work, nets, scores, answer, print: out } = self;
+        Lent { work, nets, scores, answer, print: if print { Some(out) } else { None } }
+    }
+}
+
+/// A planner as the second planner's tests call it, with an order list of entries.
+impl Planner for Which {
+    fn plan(&self, text: &[u8], work: &mut [u32], order: &mut [Entry], answer: &mut [u8]) -> second::calls::Returned {
+        with_entries(*self, text, work, order, answer, None)
+    }
+
+    fn print(
+        &self,
+        text: &[u8],
+        work: &mut [u32],
+        order: &mut [Entry],
+        answer: &mut [u8],
+        print: &mut [u8],
+    ) -> second::calls::Returned {
+        with_entries(*self, text, work, order, answer, Some(print))
+    }
+}
+
+fn with_entries(
+    which: Which,
+    text: &[u8],
+    work: &mut [u32],
+    order: &mut [Entry],
+    answer: &mut [u8],
+    print: Option<&mut [u8]>,
+) -> second::calls::Returned {
+    let mut nets: Vec<u32> = order.iter().map(|entry| entry.net).collect();
+    let mut scores: Vec<u64> = order.iter().map(|entry| entry.score).collect();
+    let returned = call(which, text, Lent { work, nets: &mut nets, scores: &mut scores, answer, print });
+    for (entry, (net, score)) in order.iter_mut().zip(nets.into_iter().zip(scores)) {
+        *entry = Entry { net, score };
+    }
+    second::calls::Returned {
+        number: returned.number as u32,
+        line: returned.line as u32,
+        vias: returned.vias,
+        total: returned.total,
+        maximum: returned.maximum,
+        length: returned.length,
+    }
+}

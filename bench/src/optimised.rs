@@ -1,0 +1,843 @@
+//! A planner written for speed, with the ideas of the proved one, over the lent buffers alone and with nothing allocated:
+//! one tight reader, marks and union-find with stamps instead of clearing, packed sort keys, least costs over intervals of
+//! layers, and all layers of an edge or a row as eight lanes, so that the compiler can take them at once.
+//!
+//! An edge has the number 2 × tile, or 2 × tile + 1 for north, which leaves a few numbers unused and takes no division.
+//! Places are not tested where the reading has shown that they are inside; a build with debug assertions tests them all.
+
+use crate::{Lent, Returned};
+
+struct Refusal(u64, u64);
+
+/// The tracks left on each of eight layers. Where there are fewer layers, the others are never legal.
+type Tracks = [i16; 8];
+
+/// A cost for each of eight layers.
+type Row = [u32; 8];
+
+/// The cost of an illegal layer, above that of any net.
+const ILLEGAL: u32 = 1 << 29;
+
+/// Marks: the stamp in the upper bits, then the ways east, north, west and south, then the pins on layers 1 to 8.
+const STAMP: u32 = 12;
+const EAST: u32 = 1 << 8;
+
+/// The vias of each set of layers.
+static SPAN: [u8; 256] = {
+    let mut span = [0; 256];
+    let mut mask = 1usize;
+    while mask < 256 {
+        span[mask] = (usize::BITS - 1 - mask.leading_zeros() - mask.trailing_zeros()) as u8;
+        mask += 1;
+    }
+    span
+};
+
+/// The costs of a tile without branches, by its pins.
+static LEAF: [Row; 256] = {
+    let mut leaf = [[0; 8]; 256];
+    let mut mask = 0;
+    while mask < 256 {
+        let mut layer = 0;
+        while layer < 8 {
+            leaf[mask][layer] = SPAN[mask | 1 << layer] as u32;
+            layer += 1;
+        }
+        mask += 1;
+    }
+    leaf
+};
+
+#[inline(always)]
+fn at<T: Copy>(list: &[T], place: usize) -> T {
+    debug_assert!(place < list.len());
+    // SAFETY: the reading has shown that the place is inside.
+    unsafe { *list.get_unchecked(place) }
+}
+
+#[inline(always)]
+fn of<T>(list: &mut [T], place: usize) -> &mut T {
+    debug_assert!(place < list.len());
+    // SAFETY: as above.
+    unsafe { list.get_unchecked_mut(place) }
+}
+
+// ---- the working numbers
+
+struct Work<'a> {
+    /// By edge and layer: the tracks left, below 0 where the layer has overflow.
+    tracks: &'a mut [Tracks],
+    /// By edge: d(e), and while nets are placed the overflow left; c(e).
+    flat: &'a mut [[u32; 2]],
+    marks: &'a mut [u32],
+    links: &'a mut [u32],
+    /// The edges of the net at hand, in the order of its line.
+    list: &'a mut [u32],
+    /// By walk place: the tile, above bit 12 the way back, above bit 16 the edge above.
+    stops: &'a mut [u32],
+    /// By walk place: the end of its branches, above bit 16 its pins.
+    ends: &'a mut [u32],
+    rows: &'a mut [Row],
+    /// By edge: the layer chosen, from 0.
+    chosen: &'a mut [u8],
+}
+
+/// How many working numbers these are for each tile: fewer than the 32 that are always lent.
+const WORDS: usize = 26;
+
+fn split(work: &mut [u32], tiles: usize) -> Work<'_> {
+    let mut rest = &mut work[..WORDS * tiles];
+    let mut part = |words: usize| rest.split_off_mut(..words * tiles).unwrap();
+    let (tracks, flat, rows, chosen) = (part(8), part(4), part(8), part(1));
+    // SAFETY: the new elements have at most the alignment of the old ones, and their parts the same lengths in bytes.
+    unsafe {
+        Work {
+            tracks: std::slice::from_raw_parts_mut(tracks.as_mut_ptr().cast(), 2 * tiles),
+            flat: std::slice::from_raw_parts_mut(flat.as_mut_ptr().cast(), 2 * tiles),
+            rows: std::slice::from_raw_parts_mut(rows.as_mut_ptr().cast(), tiles),
+            chosen: std::slice::from_raw_parts_mut(chosen.as_mut_ptr().cast(), 4 * tiles),
+            marks: part(1),
+            links: part(1),
+            list: part(1),
+            stops: part(1),
+            ends: part(1),
+        }
+    }
+}
+
+#[derive(Clone, Copy)]
+struct Shape {
+    width: usize,
+    height: usize,
+    layers: usize,
+}
+
+/// What is kept of a net: where its entries stand, the place of its first layer, its pins' number and later its vias.
+#[derive(Clone, Copy, Default)]
+struct Kept {
+    pins: u32,
+    edges: u32,
+    first: u32,
+    number: u32,
+}
+
+// ---- reading: the text ends with byte 10, so that no number runs over its end
+
+struct Reader<'a> {
+    text: &'a [u8],
+    at: usize,
+    line: u64,
+}
+
+/// The number at a place and the place after it.
+#[inline(always)]
+fn number(text: &[u8], from: usize) -> Option<(usize, usize)> {
+    let mut value = usize::from(at(text, from).wrapping_sub(48));
+    if value > 9 {
+        return None;
+    }
+    let mut place = from + 1;
+    loop {
+        let digit = usize::from(at(text, place).wrapping_sub(48));
+        if digit > 9 {
+            return Some((value, place));
+        }
+        // no digit after a 0, and none after the fifth
+        if value.wrapping_sub(1) >= 9999 {
+            return None;
+        }
+        value = 10 * value + digit;
+        place += 1;
+    }
+}
+
+/// A number with a comma behind it.
+#[inline(always)]
+fn with_comma(text: &[u8], from: usize) -> Option<(usize, usize)> {
+    let (value, place) = number(text, from)?;
+    if at(text, place) != b',' {
+        return None;
+    }
+    Some((value, place + 1))
+}
+
+/// A number of one or two digits that is known to be well-formed, and the place after the comma behind it.
+#[inline(always)]
+fn known(text: &[u8], from: usize) -> (usize, usize) {
+    let first = usize::from(at(text, from)) - 48;
+    let next = usize::from(at(text, from + 1));
+    if next == usize::from(b',') {
+        (first, from + 2)
+    } else {
+        (10 * first + next - 48, from + 3)
+    }
+}
+
+impl Reader<'_> {
+    fn refusal<T>(&self, number: u64) -> Result<T, Refusal> {
+        Err(Refusal(number, self.line))
+    }
+
+    /// The next line begins with this key.
+    #[inline(always)]
+    fn key(&mut self, key: &[u8]) -> Result<(), Refusal> {
+        self.line += 1;
+        // a line has one byte more than its key at least
+        if self.text.len() - self.at <= key.len() || &self.text[self.at..self.at + key.len()] != key {
+            return self.refusal(2);
+        }
+        self.at += key.len();
+        Ok(())
+    }
+
+    #[inline(always)]
+    fn number(&mut self, key: &[u8]) -> Result<usize, Refusal> {
+        self.key(key)?;
+        match number(self.text, self.at) {
+            Some((value, place)) if at(self.text, place) == b'\n' => {
+                self.at = place + 1;
+                Ok(value)
+            }
+            _ => self.refusal(2),
+        }
+    }
+
+    fn ranged(&mut self, key: &[u8], low: usize, high: usize) -> Result<usize, Refusal> {
+        let value = self.number(key)?;
+        if value < low || high < value {
+            return self.refusal(3);
+        }
+        Ok(value)
+    }
+
+    /// The capacities of one layer: `across` in each of `rows` rows, from each tile to the east or north.
+    fn capacities(&mut self, key: &[u8], w: &mut Work, g: Shape, north: bool, layer: usize) -> Result<(), Refusal> {
+        let (across, rows) = if north { (g.width, g.height - 1) } else { (g.width - 1, g.height) };
+        self.key(key)?;
+        let mut inside = true;
+        let mut left = across * rows;
+        if left == 0 {
+            if at(self.text, self.at) != b'\n' {
+                return self.refusal(2);
+            }
+            self.at += 1;
+        }
+        for y in 0..rows {
+            for x in 0..across {
+                let Some((value, place)) = number(self.text, self.at) else { return self.refusal(2) };
+                left -= 1;
+                if at(self.text, place) != if left == 0 { b'\n' } else { b',' } {
+                    return self.refusal(2);
+                }
+                self.at = place + 1;
+                inside &= value <= 255;
+                let edge = 2 * (y * g.width + x) + usize::from(north);
+                of(w.tracks, edge)[layer] = value as i16;
+                of(w.flat, edge)[1] += value as u32;
+            }
+        }
+        if !inside {
+            return self.refusal(3);
+        }
+        Ok(())
+    }
+
+    /// The `pins` line: how many pins there are, in how many tiles.
+    #[inline(never)]
+    fn pins(&mut self, w: &mut Work, g: Shape, base: u32) -> Result<(u32, u32), Refusal> {
+        let (mut worst, mut pins, mut tiles) = (u64::MAX, 0, 0);
+        loop {
+            let Some((x, place)) = with_comma(self.text, self.at) else { return self.refusal(2) };
+            let Some((y, place)) = with_comma(self.text, place) else { return self.refusal(2) };
+            let Some((layer, place)) = number(self.text, place) else { return self.refusal(2) };
+            let end = at(self.text, place);
+            if end != b';' && end != b'\n' {
+                return self.refusal(2);
+            }
+            self.at = place + 1;
+            pins += 1;
+            if x < g.width && y < g.height && layer.wrapping_sub(1) < g.layers {
+                let mark = of(w.marks, y * g.width + x);
+                let old = (*mark).max(base);
+                let bit = 1 << (layer - 1);
+                if old & bit != 0 {
+                    worst = worst.min(5);
+                }
+                tiles += u32::from(old == base);
+                *mark = old | bit;
+            } else {
+                worst = 3;
+            }
+            if end == b'\n' {
+                break;
+            }
+        }
+        if worst < u64::MAX {
+            return self.refusal(worst);
+        }
+        Ok((pins, tiles))
+    }
+
+    /// The `edges` line of a net whose pins lie in so many tiles: how many edges there are.
+    #[inline(never)]
+    fn edges(&mut self, w: &mut Work, g: Shape, base: u32, tiles: u32) -> Result<u32, Refusal> {
+        let (mut worst, mut edges, mut parts) = (u64::MAX, 0, tiles);
+        if at(self.text, self.at) == b'\n' {
+            self.at += 1;
+        } else {
+            loop {
+                let Some((x, place)) = with_comma(self.text, self.at) else { return self.refusal(2) };
+                let Some((y, place)) = with_comma(self.text, place) else { return self.refusal(2) };
+                let way = at(self.text, place);
+                if way != b'e' && way != b'n' {
+                    return self.refusal(2);
+                }
+                let end = at(self.text, place + 1);
+                if end != b';' && end != b'\n' {
+                    return self.refusal(2);
+                }
+                self.at = place + 2;
+                edges += 1;
+                let north = usize::from(way == b'n');
+                if x + 1 - north < g.width && y + north < g.height {
+                    let here = y * g.width + x;
+                    let there = if north == 1 { here + g.width } else { here + 1 };
+                    let old = at(w.marks, here).max(base);
+                    if old & (EAST << north) != 0 {
+                        worst = worst.min(6);
+                    } else {
+                        parts += u32::from(old == base);
+                        *of(w.marks, here) = old | EAST << north;
+                        let old = at(w.marks, there).max(base);
+                        parts += u32::from(old == base);
+                        *of(w.marks, there) = old | EAST << (north + 2);
+                        of(w.flat, 2 * here + north)[0] += 1;
+                        let (a, b) = (root(w.links, base, here), root(w.links, base, there));
+                        if a == b {
+                            worst = worst.min(7);
+                        } else {
+                            *of(w.links, a.min(b)) = base + a.max(b) as u32;
+                            parts -= 1;
+                        }
+                    }
+                } else {
+                    worst = 3;
+                }
+                if end == b'\n' {
+                    break;
+                }
+            }
+        }
+        if worst < u64::MAX {
+            return self.refusal(worst);
+        }
+        if parts != 1 {
+            return self.refusal(8);
+        }
+        Ok(edges)
+    }
+}
+
+/// The root of a tile. A tile's parent is not below it, so a link of an earlier stamp is below the tile itself.
+#[inline(always)]
+fn root(links: &mut [u32], base: u32, tile: usize) -> usize {
+    let parent = |links: &[u32], tile: usize| (at(links, tile).max(base + tile as u32) - base) as usize;
+    let mut tile = tile;
+    loop {
+        let above = parent(links, tile);
+        if above == tile {
+            return tile;
+        }
+        let next = parent(links, above);
+        *of(links, tile) = base + next as u32;
+        tile = next;
+    }
+}
+
+// ---- a net in its turn
+
+/// The entries of the known edges from a place on: each edge's tile and whether it goes north.
+#[inline(always)]
+fn known_edges(text: &[u8], from: usize, width: usize, mut each: impl FnMut(usize, usize)) {
+    if at(text, from) == b'\n' {
+        return;
+    }
+    let mut place = from;
+    loop {
+        let (x, next) = known(text, place);
+        let (y, next) = known(text, next);
+        each(y * width + x, usize::from(at(text, next) == b'n'));
+        place = next + 2;
+        if at(text, next + 1) == b'\n' {
+            return;
+        }
+    }
+}
+
+/// Marks the net's pins and edges, and lists its edges. Its lowest tile.
+#[inline(never)]
+fn mark(text: &[u8], kept: Kept, w: &mut Work, g: Shape, base: u32) -> usize {
+    let mut low = usize::MAX;
+    let mut place = kept.pins as usize;
+    loop {
+        let (x, next) = known(text, place);
+        let (y, next) = known(text, next);
+        let tile = y * g.width + x;
+        let mark = of(w.marks, tile);
+        *mark = (*mark).max(base) | 1 << (at(text, next) - b'1');
+        low = low.min(tile);
+        place = next + 2;
+        if at(text, next + 1) == b'\n' {
+            break;
+        }
+    }
+    let mut count = 0;
+    known_edges(text, kept.edges as usize, g.width, |here, north| {
+        let there = if north == 1 { here + g.width } else { here + 1 };
+        let mark = of(w.marks, here);
+        *mark = (*mark).max(base) | EAST << north;
+        let mark = of(w.marks, there);
+        *mark = (*mark).max(base) | EAST << (north + 2);
+        *of(w.list, count) = (2 * here + north) as u32;
+        count += 1;
+        low = low.min(here);
+    });
+    low
+}
+
+/// Numbers the net's tiles in walk order from its lowest on. How many there are.
+#[inline(never)]
+fn walk(w: &mut Work, width: usize, root: usize) -> usize {
+    *of(w.stops, 0) = root as u32;
+    let (mut place, mut count) = (0, 1);
+    while place < count {
+        let stop = at(w.stops, place);
+        let tile = stop as usize & 4095;
+        let mark = at(w.marks, tile);
+        let ways = mark >> 8 & !(stop >> 12);
+        if ways & 1 != 0 {
+            *of(w.stops, count) = (tile + 1 | 4 << 12 | (2 * tile) << 16) as u32;
+            count += 1;
+        }
+        if ways & 2 != 0 {
+            *of(w.stops, count) = (tile + width | 8 << 12 | (2 * tile + 1) << 16) as u32;
+            count += 1;
+        }
+        if ways & 4 != 0 {
+            *of(w.stops, count) = (tile - 1 | 1 << 12 | (2 * tile - 2) << 16) as u32;
+            count += 1;
+        }
+        if ways & 8 != 0 {
+            *of(w.stops, count) = (tile - width | 2 << 12 | (2 * (tile - width) + 1) << 16) as u32;
+            count += 1;
+        }
+        *of(w.ends, place) = count as u32 | (mark & 255) << 16;
+        place += 1;
+    }
+    count
+}
+
+/// A tile with one branch and no pin: two sweeps.
+#[inline(always)]
+fn sweep(row: &Row) -> Row {
+    let mut costs = [0; 8];
+    let mut least = ILLEGAL;
+    for layer in 0..8 {
+        least = (least + 1).min(row[layer]);
+        costs[layer] = least;
+    }
+    for layer in (0..7).rev() {
+        least = (least + 1).min(costs[layer]);
+        costs[layer] = least;
+    }
+    costs
+}
+
+/// A tile with one branch and pins from `low` to `high`. Outside of these the branch's layer is on this side of the layer above, or
+/// beyond it, or on the other side of the pins.
+#[inline(always)]
+fn pinned(row: &Row, low: usize, high: usize) -> Row {
+    let (mut below, mut above) = ([0; 8], [0; 8]);
+    let mut least = ILLEGAL;
+    for layer in 0..8 {
+        least = (least + 1).min(row[layer]);
+        below[layer] = least;
+    }
+    least = ILLEGAL;
+    for layer in (0..8).rev() {
+        least = (least + 1).min(row[layer]);
+        above[layer] = least;
+    }
+    let mut inside = ILLEGAL;
+    for layer in low + 1..high {
+        inside = inside.min(row[layer]);
+    }
+    let mut costs = [0; 8];
+    least = inside.min(below[low]);
+    for layer in high..8 {
+        least = least.min(row[layer]);
+        costs[layer] = (layer - low) as u32 + least.min(above[layer]);
+    }
+    for layer in low + 1..high {
+        costs[layer] = costs[high];
+    }
+    least = inside.min(above[high]);
+    for layer in (0..=low).rev() {
+        least = least.min(row[layer]);
+        costs[layer] = (high - layer) as u32 + least.min(below[layer]);
+    }
+    costs
+}
+
+/// The least costs over the intervals of layers that hold all from `low` to `high`: the vias from one end to the other, and
+/// for each branch its least cost within, which is a running minimum. Without pins `low` is 7 and `high` 0.
+#[inline(always)]
+fn intervals<const BRANCHES: usize>(rows: [&Row; BRANCHES], low: usize, high: usize) -> Row {
+    let mut costs = [ILLEGAL; 8];
+    for start in 0..=low {
+        let mut within = [ILLEGAL; BRANCHES];
+        let mut ended = [0; 8];
+        for end in start..8 {
+            let mut cost = (end - start) as u32;
+            for branch in 0..BRANCHES {
+                within[branch] = within[branch].min(rows[branch][end]);
+                cost += within[branch];
+            }
+            ended[end] = cost;
+        }
+        let mut least = ILLEGAL;
+        for end in (high.max(start)..8).rev() {
+            least = least.min(ended[end]);
+            costs[end] = costs[end].min(least);
+        }
+        for end in start..high {
+            costs[end] = costs[end].min(least);
+        }
+    }
+    costs
+}
+
+/// The costs of a tile for each layer above it.
+#[inline(always)]
+fn costs(rows: &[Row], first: usize, branches: usize, pins: usize) -> Row {
+    if branches == 0 {
+        return LEAF[pins & 255];
+    }
+    let row = |branch: usize| {
+        debug_assert!(first + branch < rows.len());
+        // SAFETY: a walk place.
+        unsafe { rows.get_unchecked(first + branch) }
+    };
+    let (low, high) = match pins & 255 {
+        0 if branches == 1 => return sweep(row(0)),
+        0 => (7, 0),
+        pins => (pins.trailing_zeros() as usize, 7 - (pins as u8).leading_zeros() as usize),
+    };
+    match branches {
+        1 => pinned(row(0), low & 7, high & 7),
+        2 => intervals([row(0), row(1)], low & 7, high & 7),
+        _ => intervals([row(0), row(1), row(2)], low & 7, high & 7),
+    }
+}
+
+/// The rows of the tiles from the last to the one after the root.
+#[inline(never)]
+fn fill_rows(w: &mut Work, count: usize, limit: i16) {
+    for place in (1..count).rev() {
+        let end = at(w.ends, place);
+        let first = at(w.ends, place - 1) as usize & 0xffff;
+        let costs = costs(w.rows, first, (end as usize & 0xffff) - first, (end >> 16) as usize);
+        let edge = (at(w.stops, place) >> 16) as usize;
+        let tracks = at(w.tracks, edge);
+        let room = if at(w.flat, edge)[0] > 0 { limit } else { 0 };
+        let row = of(w.rows, place);
+        for layer in 0..8 {
+            row[layer] = if tracks[layer] > -room { costs[layer] } else { ILLEGAL };
+        }
+    }
+}
+
+/// One more net on a layer of the edge above a walk place.
+#[inline(always)]
+fn take(w: &mut Work, place: usize, layer: usize) {
+    let edge = (at(w.stops, place) >> 16) as usize;
+    let tracks = &mut of(w.tracks, edge)[layer & 7];
+    of(w.flat, edge)[0] -= u32::from(*tracks <= 0);
+    *tracks -= 1;
+    *of(w.chosen, edge) = layer as u8;
+}
+
+/// Takes the first layers of the branches of a tile that, with the set `base` of its other layers, cost just `goal`.
+#[inline(always)]
+fn take_branches(w: &mut Work, first: usize, branches: usize, base: usize, goal: u32, layers: usize) {
+    let span = |mask: usize| u32::from(SPAN[mask & 255]);
+    match branches {
+        0 => {}
+        1 => {
+            let row = at(w.rows, first);
+            let layer = (0..layers).find(|a| row[*a] <= goal && span(base | 1 << a) == goal - row[*a]).unwrap_or(0);
+            take(w, first, layer);
+        }
+        2 => {
+            let (one, two) = (at(w.rows, first), at(w.rows, first + 1));
+            for a in 0..layers {
+                if one[a] > goal {
+                    continue;
+                }
+                let left = goal - one[a];
+                let base = base | 1 << a;
+                if let Some(b) = (0..layers).find(|b| two[*b] <= left && span(base | 1 << b) == left - two[*b]) {
+                    take(w, first, a);
+                    take(w, first + 1, b);
+                    return;
+                }
+            }
+        }
+        _ => {
+            let (one, two, three) = (at(w.rows, first), at(w.rows, first + 1), at(w.rows, first + 2));
+            for a in 0..layers {
+                if one[a] > goal {
+                    continue;
+                }
+                let left = goal - one[a];
+                let base = base | 1 << a;
+                for b in 0..layers {
+                    let base = base | 1 << b;
+                    if two[b] + span(base) > left {
+                        continue;
+                    }
+                    let left = left - two[b];
+                    let reaches = |c: &usize| three[*c] <= left && span(base | 1 << c) == left - three[*c];
+                    if let Some(c) = (0..layers).find(reaches) {
+                        take(w, first, a);
+                        take(w, first + 1, b);
+                        take(w, first + 2, c);
+                        return;
+                    }
+                }
+            }
+        }
+    }
+}
+
+/// Chooses the layers of the net that is walked. Its vias.
+#[inline(never)]
+fn choose(w: &mut Work, count: usize, layers: usize) -> u32 {
+    let end = at(w.ends, 0);
+    let (branches, pins) = ((end as usize & 0xffff) - 1, (end >> 16) as usize);
+    if branches == 0 {
+        return u32::from(SPAN[pins]);
+    }
+    let least = costs(w.rows, 1, branches, pins).into_iter().min().unwrap_or(0);
+    take_branches(w, 1, branches, pins, least, layers);
+    let mut first = branches + 1;
+    for place in 1..count {
+        let end = at(w.ends, place);
+        let branches = (end as usize & 0xffff) - first;
+        if branches > 0 {
+            let layer = usize::from(at(w.chosen, (at(w.stops, place) >> 16) as usize)) & 7;
+            let goal = at(w.rows, place)[layer];
+            take_branches(w, first, branches, (end >> 16) as usize | 1 << layer, goal, layers);
+            first += branches;
+        }
+    }
+    least
+}
+
+// ---- printing
+
+/// Writes into a buffer that is known to be long enough.
+struct Writer<'a> {
+    out: &'a mut [u8],
+    at: usize,
+}
+
+impl Writer<'_> {
+    #[inline(always)]
+    fn text(&mut self, text: &[u8]) {
+        self.out[self.at..self.at + text.len()].copy_from_slice(text);
+        self.at += text.len();
+    }
+
+    #[inline(always)]
+    fn number(&mut self, number: u64, end: u8) {
+        let mut digits = [0; 21];
+        let mut place = 20;
+        let mut left = number;
+        digits[20] = end;
+        loop {
+            place -= 1;
+            digits[place] = b'0' + (left % 10) as u8;
+            left /= 10;
+            if left == 0 {
+                break;
+            }
+        }
+        for digit in &digits[place..] {
+            *of(self.out, self.at) = *digit;
+            self.at += 1;
+        }
+    }
+
+    fn layers(&mut self, layers: &[u8]) {
+        self.text(b"layers=");
+        if layers.is_empty() {
+            return self.text(b"\n");
+        }
+        let list = &mut self.out[self.at..self.at + 2 * layers.len()];
+        for (two, layer) in list.chunks_exact_mut(2).zip(layers) {
+            two[0] = b'0' + layer;
+            two[1] = b',';
+        }
+        self.at += 2 * layers.len();
+        self.out[self.at - 1] = b'\n';
+    }
+}
+
+// ---- the call
+
+fn run(text: &[u8], lent: Lent) -> Result<Returned, Refusal> {
+    let Lent { work, nets: order, scores, answer, print } = lent;
+    if text.len() > 1_048_576 {
+        return Err(Refusal(1, 0));
+    }
+    let ended = text.iter().rposition(|byte| *byte == b'\n').map_or(0, |place| place + 1);
+    let mut reader = Reader { text: &text[..ended], at: 0, line: 0 };
+    let width = reader.ranged(b"width=", 1, 64)?;
+    let height = reader.ranged(b"height=", 1, 64)?;
+    let layers = reader.ranged(b"layers=", 2, 8)?;
+    let g = Shape { width, height, layers };
+    let tiles = width * height;
+    let edges = (width - 1) * height + width * (height - 1);
+    if work.len() < 2 * layers * edges + 2 * edges + 32 * tiles {
+        return reader.refusal(9);
+    }
+    work[..WORDS * tiles].fill(0);
+    let w = &mut split(work, tiles);
+    if layers < 8 {
+        w.tracks.fill([i16::MIN; 8]);
+    }
+    let alpha = reader.ranged(b"alpha=", 0, 255)? as u64;
+    let beta = reader.ranged(b"beta=", 0, 255)? as u64;
+    let gamma = reader.ranged(b"gamma=", 0, 255)? as u64;
+    for layer in 0..layers {
+        reader.capacities(b"east=", w, g, false, layer)?;
+        reader.capacities(b"north=", w, g, true, layer)?;
+    }
+    let count = reader.ranged(b"nets=", 0, 4096)?;
+    if order.len().min(scores.len()) < count {
+        return reader.refusal(10);
+    }
+    let mut table = [Kept::default(); 4097];
+    let mut entries = 0;
+    for net in 0..count {
+        if reader.number(b"net=")? != net + 1 {
+            return reader.refusal(4);
+        }
+        let base = (net as u32 + 1) << STAMP;
+        let kept = of(&mut table, net);
+        reader.key(b"pins=")?;
+        kept.pins = reader.at as u32;
+        let (pins, tiles) = reader.pins(w, g, base)?;
+        kept.number = pins;
+        reader.key(b"edges=")?;
+        kept.edges = reader.at as u32;
+        kept.first = entries;
+        entries += reader.edges(w, g, base, tiles)?;
+    }
+    table[count].first = entries;
+    if reader.at < text.len() {
+        reader.line += 1;
+        return reader.refusal(2);
+    }
+    let entries = entries as usize;
+    if answer.len() < entries || print.as_ref().is_some_and(|print| print.len() < 256 + 64 * count + 2 * entries) {
+        return reader.refusal(11);
+    }
+
+    // the order: the highest score first, of equal ones the lowest number
+    let (order, scores) = (&mut order[..count], &mut scores[..count]);
+    for net in 0..count {
+        let kept = at(&table, net);
+        let length = u64::from(at(&table, net + 1).first - kept.first);
+        let (mut d, mut c) = (0, 0);
+        if gamma > 0 {
+            known_edges(text, kept.edges as usize, width, |tile, north| {
+                let [demand, capacity] = at(w.flat, 2 * tile + north);
+                d += u64::from(demand);
+                c += u64::from(capacity);
+            });
+        }
+        let score = 1000 * alpha / length.max(1) + 1000 * beta * u64::from(kept.number) + 1000 * gamma * d / c.max(1);
+        scores[net] = score << 12 | (4095 - net as u64);
+    }
+    scores.sort_unstable_by(|a, b| b.cmp(a));
+    for (number, key) in order.iter_mut().zip(scores.iter_mut()) {
+        *number = 4096 - (*key & 4095) as u32;
+        *key >>= 12;
+    }
+
+    let (mut total, mut most) = (0, 0);
+    for [demand, capacity] in w.flat.iter_mut() {
+        *demand = demand.saturating_sub(*capacity);
+        total += u64::from(*demand);
+        most = most.max(*demand);
+    }
+    let limit = most.div_ceil(layers as u32);
+
+    let mut vias = 0;
+    for (turn, number) in order.iter().enumerate() {
+        let net = *number as usize - 1;
+        let kept = at(&table, net);
+        let low = mark(text, kept, w, g, ((count + 1 + turn) as u32) << STAMP);
+        let tiles = walk(w, width, low);
+        fill_rows(w, tiles, limit as i16);
+        let cost = choose(w, tiles, layers);
+        of(&mut table, net).number = cost;
+        vias += u64::from(cost);
+        let (from, to) = (kept.first as usize, at(&table, net + 1).first as usize);
+        for (layer, edge) in answer[from..to].iter_mut().zip(w.list.iter()) {
+            *layer = at(w.chosen, *edge as usize) + 1;
+        }
+    }
+
+    let mut length = 0;
+    if let Some(out) = print {
+        let mut writer = Writer { out, at: 0 };
+        writer.text(b"order=");
+        for (place, number) in order.iter().enumerate() {
+            writer.number(u64::from(*number), if place + 1 < count { b',' } else { b'\n' });
+        }
+        if count == 0 {
+            writer.text(b"\n");
+        }
+        for net in 0..count {
+            writer.text(b"net=");
+            writer.number(net as u64 + 1, b'\n');
+            writer.text(b"vias=");
+            writer.number(u64::from(table[net].number), b'\n');
+            writer.layers(&answer[table[net].first as usize..table[net + 1].first as usize]);
+        }
+        writer.text(b"total_vias=");
+        writer.number(vias, b'\n');
+        writer.text(b"total_overflow=");
+        writer.number(total, b'\n');
+        writer.text(b"max_overflow=");
+        writer.number(u64::from(limit), b'\n');
+        length = writer.at as u64;
+    }
+    Ok(Returned { number: 0, line: 0, vias, total, maximum: u64::from(limit), length })
+}
+
+/// Plan, or Print where a print buffer is lent.
+#[inline(never)]
+#[no_mangle]
+pub fn optimised_call(text: &[u8], lent: Lent) -> Returned {
+    let Lent { work, nets, scores, answer, print } = lent;
+    let returned = match run(text, Lent { work, nets, scores, answer, print }) {
+        Ok(returned) => returned,
+        Err(Refusal(number, line)) => Returned { number, line, ..Returned::default() },
+    };
+    work.fill(0);
+    returned
+}
