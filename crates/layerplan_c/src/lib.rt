@@ -1,13 +1,16 @@
 // Both calls under the names that C and Rust link: include/layerplan.h declares them. A slice is passed as pointer and length.
 use calls::Planned;
 use calls::Printed;
+use calls::Totals;
+use text::Refusal;
 ghost use mathlib.Core.Path.{_≡_};
-ghost use Rattle.calls.specs.Calls.{buffersOf, Beyond};
+ghost use Rattle.calls.specs.Calls.{buffersOf, Beyond, returnedOf};
+ghost use Rattle.calls.specs.declared.Planned.the-variants.{Plan, Refused};
 ghost use Rattle.model.specs.Calls.{planLent, planCall, printLent, printCall};
 ghost use Rattle.model.specs.Demand3.{Met};
 ghost use Rattle.model.specs.Job.{Job};
 ghost use Rattle.model.specs.Read.{Place, found, read};
-ghost use Rattle.layerplan_c.specs.Results.{toldBy, planResult, printResult};
+ghost use Rattle.layerplan_c.specs.Results.{toldBy, resultWith, planResult, printResult};
 
 // "number, line, total vias, total and maximum", and the length of the printed text.
 #[repr(C)]
@@ -20,26 +23,42 @@ pub struct LayerplanResult {
     pub length: u64,
 }
 
+// The result for a plan that is made, with the length of its text.
+fn made(t: Totals, length: u64) -> LayerplanResult
+    ensures { λ r. ⌜ r ≡ resultWith (returnedOf (Plan t)) length ⌝ }
+{
+    LayerplanResult {
+        number: 0,
+        line: 0,
+        vias: t.vias,
+        total: t.total,
+        maximum: t.maximum,
+        length,
+    }
+}
+
+// The result for a refusal: its number and line, and zeros.
+fn refused(f: Refusal) -> LayerplanResult
+    ensures { λ r. ⌜ r ≡ planResult (Refused f) ⌝ }
+{
+    let number = text::number_of(f);
+    let line = text::line_of(f);
+    LayerplanResult {
+        number: number as u64,
+        line: line as u64,
+        vias: 0,
+        total: 0,
+        maximum: 0,
+        length: 0,
+    }
+}
+
 fn plan_result(p: Planned) -> LayerplanResult
     ensures { λ r. ⌜ r ≡ planResult p ⌝ }
 {
     match p {
-        Planned::Plan(t) => LayerplanResult {
-            number: 0,
-            line: 0,
-            vias: t.vias,
-            total: t.total,
-            maximum: t.maximum,
-            length: 0,
-        },
-        Planned::Refused(f) => LayerplanResult {
-            number: text::number_of(f) as u64,
-            line: text::line_of(f) as u64,
-            vias: 0,
-            total: 0,
-            maximum: 0,
-            length: 0,
-        },
+        Planned::Plan(t) => made(t, 0),
+        Planned::Refused(f) => refused(f),
     }
 }
 
@@ -47,22 +66,8 @@ fn print_result(p: Printed) -> LayerplanResult
     ensures { λ r. ⌜ r ≡ printResult p ⌝ }
 {
     match p {
-        Printed::Print(t, size) => LayerplanResult {
-            number: 0,
-            line: 0,
-            vias: t.vias,
-            total: t.total,
-            maximum: t.maximum,
-            length: size as u64,
-        },
-        Printed::Refused(f) => LayerplanResult {
-            number: text::number_of(f) as u64,
-            line: text::line_of(f) as u64,
-            vias: 0,
-            total: 0,
-            maximum: 0,
-            length: 0,
-        },
+        Printed::Print(t, size) => made(t, size as u64),
+        Printed::Refused(f) => refused(f),
     }
 }
 
