@@ -1,6 +1,5 @@
 // The lines of an accepted net, read again for placing. What the first pass found right is not tested again.
 use layout::Shape;
-use text::Entry;
 ghost use mathlib.Core.Bool.{true};
 ghost use mathlib.Core.Path.{_≡_};
 ghost use Prim.Native.Nat.{ℕ, _+_, _-_, _*_, _<_, _≤_, min};
@@ -54,18 +53,12 @@ pub fn mark_pins(s: &[u8], at: usize, a: &mut [u32], g: Shape, stamp: u32) -> us
     let mut i = at;
     let mut low = 4096;
     loop {
-        match text::pin_at(s, i) {
-            Entry::Bad => {
-                return low;
-            }
-            Entry::Last(x, y, l, _) => {
-                return mark_pin(a, g, stamp, low, x, y, l);
-            }
-            Entry::More(x, y, l, next) => {
-                low = mark_pin(a, g, stamp, low, x, y, l);
-                i = next;
-            }
+        let p = known::pin_at(s, i);
+        low = mark_pin(a, g, stamp, low, p.x, p.y, p.third);
+        if p.last {
+            return low;
         }
+        i = p.next;
     }
 }
 
@@ -108,18 +101,12 @@ fn mark_entries(s: &[u8], at: usize, w: &mut [u32], g: Shape, stamp: u32, low: u
     let mut i = at;
     let mut v = Again { low, edges: 0 };
     loop {
-        match text::edge_at(s, i) {
-            Entry::Bad => {
-                return v;
-            }
-            Entry::Last(x, y, d, _) => {
-                return mark_edge(w, g, stamp, v, x, y, d);
-            }
-            Entry::More(x, y, d, next) => {
-                v = mark_edge(w, g, stamp, v, x, y, d);
-                i = next;
-            }
+        let e = known::edge_at(s, i);
+        v = mark_edge(w, g, stamp, v, e.x, e.y, e.third);
+        if e.last {
+            return v;
         }
+        i = e.next;
     }
 }
 

@@ -1,7 +1,6 @@
 // The scores of all nets of an accepted job, and the order list in placing order.
 use layout::Shape;
 use score::Density;
-use text::Entry;
 ghost use mathlib.Core.Bool.{true};
 ghost use mathlib.Core.List.{map};
 ghost use mathlib.Core.Path.{_≡_};
@@ -85,18 +84,12 @@ fn entries_density(s: &[u8], at: usize, w: &[u32], g: Shape) -> Density
         capacity: 0,
     };
     loop {
-        match text::edge_at(s, i) {
-            Entry::Bad => {
-                return v;
-            }
-            Entry::Last(x, y, d, _) => {
-                return add_entry(w, g, v, x, y, d);
-            }
-            Entry::More(x, y, d, next) => {
-                v = add_entry(w, g, v, x, y, d);
-                i = next;
-            }
+        let e = known::edge_at(s, i);
+        v = add_entry(w, g, v, e.x, e.y, e.third);
+        if e.last {
+            return v;
         }
+        i = e.next;
     }
 }
 
