@@ -1,3 +1,4 @@
 mod Digits
 mod Prefix
 mod Commas
+mod Brief

@@ -2,7 +2,8 @@
 -- Assumes nothing.
 use mathlib.Core.Bool.{Bool, true, false, _&&_, cond}
 use mathlib.Core.List.{List, [], _∷_}
-use Prim.Native.Nat.{ℕ, _+_}
+use mathlib.Core.Path.{_≡_}
+use Prim.Native.Nat.{ℕ, _+_, _≤_}
 use lib.Dec.{eqb}
 use lib.ListN.{getD}
 use Rattle.text.specs.Number.{numberAt}
@@ -23,6 +24,15 @@ module _ {A : Type 0} where
   onNumber (Value v next) f bad = f v next
   onNumber Malformed f bad = bad
 
+-- a number and the byte behind it
+unfoldable pub endedAt : List ℕ → ℕ → ℕ → Numeral
+endedAt s at end = onNumber (numberAt s at) (λ v next. cond (eqb (getD s next 0) end) (Value v (next + 1)) Malformed) Malformed
+
+-- what was found is such a number, of at most two digits
+abbrev pub Short : List ℕ → ℕ → ℕ → Numeral → Type 0
+Short s at end (Value v next) = (endedAt s at end ≡ Value v next) × (next ≤ at + 3)
+Short s at end Malformed = Unit {0}
+
 -- a number and a comma
 unfoldable pub commaAt : List ℕ → ℕ → Numeral
 commaAt s at = onNumber (numberAt s at) (λ v next. cond (eqb (getD s next 0) 44) (Value v (next + 1)) Malformed) Malformed
@@ -31,6 +41,10 @@ commaAt s at = onNumber (numberAt s at) (λ v next. cond (eqb (getD s next 0) 44
 abbrev pub broken : List ℕ → ℕ → ℕ → ℕ → ℕ → Entry
 broken s x y z n = cond (eqb (getD s n 0) 59) (More x y z (n + 1)) (cond (eqb (getD s n 0) 10) (Last x y z (n + 1)) Bad)
 
+-- the rest of an edge from its letter on, at q: `e` or `n`, and the byte behind it
+abbrev pub wayAt : List ℕ → ℕ → ℕ → ℕ → Entry
+wayAt s x y q = cond (eqb (getD s q 0) 101) (broken s x y 0 (q + 1)) (cond (eqb (getD s q 0) 110) (broken s x y 1 (q + 1)) Bad)
+
 -- `x,y,l`
 unfoldable pub pinEntryAt : List ℕ → ℕ → Entry
 pinEntryAt s at =
@@ -38,10 +52,10 @@ pinEntryAt s at =
 
 -- `x,y,e` or `x,y,n`
 unfoldable pub edgeEntryAt : List ℕ → ℕ → Entry
-edgeEntryAt s at =
-    onNumber (commaAt s at)
-    (λ x p.
-    onNumber (commaAt s p)
-    (λ y q. cond (eqb (getD s q 0) 101) (broken s x y 0 (q + 1)) (cond (eqb (getD s q 0) 110) (broken s x y 1 (q + 1)) Bad))
-    Bad)
-    Bad
+edgeEntryAt s at = onNumber (commaAt s at) (λ x p. onNumber (commaAt s p) (λ y q. wayAt s x y q) Bad) Bad
+
+-- what was found, if anything, is this entry
+abbrev pub Told : Entry → Entry → Type 0
+Told e (More x y z next) = More x y z next ≡ e
+Told e (Last x y z next) = Last x y z next ≡ e
+Told e Bad = Unit {0}

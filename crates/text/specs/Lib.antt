@@ -1,3 +1,4 @@
 pub mod Number
 pub mod Entries
+pub mod Items
 pub mod Refusals

@@ -1,11 +1,13 @@
 // Numbers, keys and entries at a place of the job text. Every function takes any place: past the end there is nothing to read.
 ghost use mathlib.Core.Path.{_≡_};
-ghost use Prim.Native.Nat.{_+_, _-_, _≤_};
+ghost use Prim.Native.Nat.{_+_, _-_, _<_, _≤_};
+ghost use lib.Dec.{leb};
 ghost use lib.ListN.{length, drop};
 ghost use lib.Seq.{slice};
 ghost use Rattle.model.specs.Text.{isDigit, valueFrom};
 ghost use Rattle.text.specs.Number.{digitRun, numberAt};
-ghost use Rattle.text.specs.Entries.{startsWith, commaAt, broken, pinEntryAt, edgeEntryAt};
+ghost use Rattle.text.specs.Entries.{startsWith, commaAt, Short, broken, wayAt, pinEntryAt, edgeEntryAt, Told};
+ghost use Rattle.text.specs.Items.{entryOf};
 ghost use Rattle.text.specs.Refusals.{faultNumber, numberOf, lineOf};
 
 // The reading place: where the next line starts, and how many lines were read.
@@ -45,6 +47,16 @@ pub enum Entry {
     More(usize, usize, usize, usize),
     Last(usize, usize, usize, usize),
     Bad,
+}
+
+// An entry taken apart, so that a loop over entries goes on in one way: whether there is one, and whether it is the last of its line.
+pub struct Item {
+    pub good: bool,
+    pub last: bool,
+    pub x: usize,
+    pub y: usize,
+    pub z: usize,
+    pub next: usize,
 }
 
 fn is_digit(b: u8) -> bool
@@ -129,6 +141,48 @@ pub fn key_at(s: &[u8], at: usize, key: &[u8]) -> bool
     true
 }
 
+// Whether n bytes are left from `at` on.
+pub fn room(s: &[u8], at: usize, n: usize) -> bool
+    requires { ⌜ n ≤ 8 ⌝ }
+    ensures { λ r. ⌜ r ≡ leb (at + n) (length (now (s .entry))) ⌝ }
+{
+    if s.len() < n {
+        return false;
+    }
+    if s.len() - n < at {
+        return false;
+    }
+    true
+}
+
+// The number at `at` with the byte `end` behind it, where it has one or two digits: the common case, without a loop. Malformed says nothing.
+pub fn short(s: &[u8], at: usize, end: u8) -> Numeral
+    requires { ⌜ (at + 3 ≤ length (now s)) × (end < 48) ⌝ }
+    ensures { λ r. ⌜ Short (now (s .entry)) at end r ⌝ }
+{
+    let a = s[at];
+    if !is_digit(a) {
+        return Numeral::Malformed;
+    }
+    let b = s[at + 1];
+    if b == end {
+        return Numeral::Value(digit_value(a), at + 2);
+    }
+    if a == 48 {
+        return Numeral::Malformed;
+    }
+    let c = s[at + 2];
+    if c != end {
+        return Numeral::Malformed;
+    }
+    if !is_digit(b) {
+        return Numeral::Malformed;
+    }
+    let tens = digit_value(a);
+    let ones = digit_value(b);
+    Numeral::Value(10 * tens + ones, at + 3)
+}
+
 // A number and a comma.
 fn with_comma(s: &[u8], at: usize) -> Numeral
     ensures { λ r. ⌜ r ≡ commaAt (now (s .entry)) at ⌝ }
@@ -165,8 +219,49 @@ fn break_at(s: &[u8], x: usize, y: usize, z: usize, n: usize) -> Entry
     Entry::Bad
 }
 
-// A pin and the byte behind it.
-pub fn pin_at(s: &[u8], at: usize) -> Entry
+// The rest of an edge from its letter on, which stands at q.
+fn way_at(s: &[u8], x: usize, y: usize, q: usize) -> Entry
+    ensures { λ r. ⌜ r ≡ wayAt (now (s .entry)) x y q ⌝ }
+{
+    if s.len() <= q {
+        return Entry::Bad;
+    }
+    let b = s[q];
+    if b == 101 {
+        return break_at(s, x, y, 0, q + 1);
+    }
+    if b == 110 {
+        return break_at(s, x, y, 1, q + 1);
+    }
+    Entry::Bad
+}
+
+// A pin and the byte behind it, where x and y have one or two digits and the layer has one. Bad says nothing.
+fn short_pin(s: &[u8], at: usize) -> Entry
+    ensures { λ r. ⌜ Told (pinEntryAt (now (s .entry)) at) r ⌝ }
+{
+    if !room(s, at, 8) {
+        return Entry::Bad;
+    }
+    let Numeral::Value(x, p) = short(s, at, 44) else {
+        return Entry::Bad;
+    };
+    let Numeral::Value(y, q) = short(s, p, 44) else {
+        return Entry::Bad;
+    };
+    let b = s[q];
+    if !is_digit(b) {
+        return Entry::Bad;
+    }
+    let c = s[q + 1];
+    if is_digit(c) {
+        return Entry::Bad;
+    }
+    break_at(s, x, y, digit_value(b), q + 1)
+}
+
+// The same with numbers of any length.
+fn long_pin(s: &[u8], at: usize) -> Entry
     ensures { λ r. ⌜ r ≡ pinEntryAt (now (s .entry)) at ⌝ }
 {
     let Numeral::Value(x, p) = with_comma(s, at) else {
@@ -181,8 +276,35 @@ pub fn pin_at(s: &[u8], at: usize) -> Entry
     break_at(s, x, y, l, n)
 }
 
-// An edge and the byte behind it.
-pub fn edge_at(s: &[u8], at: usize) -> Entry
+// A pin and the byte behind it.
+pub fn pin_at(s: &[u8], at: usize) -> Entry
+    ensures { λ r. ⌜ r ≡ pinEntryAt (now (s .entry)) at ⌝ }
+{
+    match short_pin(s, at) {
+        Entry::Bad => long_pin(s, at),
+        Entry::More(x, y, z, n) => Entry::More(x, y, z, n),
+        Entry::Last(x, y, z, n) => Entry::Last(x, y, z, n),
+    }
+}
+
+// An edge and the byte behind it, where x and y have one or two digits. Bad says nothing.
+fn short_edge(s: &[u8], at: usize) -> Entry
+    ensures { λ r. ⌜ Told (edgeEntryAt (now (s .entry)) at) r ⌝ }
+{
+    if !room(s, at, 8) {
+        return Entry::Bad;
+    }
+    let Numeral::Value(x, p) = short(s, at, 44) else {
+        return Entry::Bad;
+    };
+    let Numeral::Value(y, q) = short(s, p, 44) else {
+        return Entry::Bad;
+    };
+    way_at(s, x, y, q)
+}
+
+// The same with numbers of any length.
+fn long_edge(s: &[u8], at: usize) -> Entry
     ensures { λ r. ⌜ r ≡ edgeEntryAt (now (s .entry)) at ⌝ }
 {
     let Numeral::Value(x, p) = with_comma(s, at) else {
@@ -191,17 +313,49 @@ pub fn edge_at(s: &[u8], at: usize) -> Entry
     let Numeral::Value(y, q) = with_comma(s, p) else {
         return Entry::Bad;
     };
-    if s.len() <= q {
-        return Entry::Bad;
+    way_at(s, x, y, q)
+}
+
+// An edge and the byte behind it.
+pub fn edge_at(s: &[u8], at: usize) -> Entry
+    ensures { λ r. ⌜ r ≡ edgeEntryAt (now (s .entry)) at ⌝ }
+{
+    match short_edge(s, at) {
+        Entry::Bad => long_edge(s, at),
+        Entry::More(x, y, z, n) => Entry::More(x, y, z, n),
+        Entry::Last(x, y, z, n) => Entry::Last(x, y, z, n),
     }
-    let b = s[q];
-    if b == 101 {
-        return break_at(s, x, y, 0, q + 1);
+}
+
+pub fn item_of(e: Entry) -> Item
+    ensures { λ r. ⌜ entryOf r ≡ e ⌝ }
+{
+    match e {
+        Entry::More(x, y, z, next) => Item {
+            good: true,
+            last: false,
+            x,
+            y,
+            z,
+            next,
+        },
+        Entry::Last(x, y, z, next) => Item {
+            good: true,
+            last: true,
+            x,
+            y,
+            z,
+            next,
+        },
+        Entry::Bad => Item {
+            good: false,
+            last: true,
+            x: 0,
+            y: 0,
+            z: 0,
+            next: 0,
+        },
     }
-    if b == 110 {
-        return break_at(s, x, y, 1, q + 1);
-    }
-    Entry::Bad
 }
 
 // Document 01's number for a fault of a line.

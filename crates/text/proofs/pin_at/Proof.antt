@@ -1,28 +1,17 @@
-use mathlib.Core.Path.{sym, _∙_}
-use Rattle.text.specs.Entries.{pinEntryAt}
+-- `pin_at` meets its contract.
+-- Assumes nothing.
 use borrow.Author.Needs.{needs}
+use Rattle.text.specs.Entries.{pinEntryAt}
+use Rattle.text.proofs.Brief.{told-more, told-last}
 use Rattle.text.proofs.pin_at.Statement.{statement}
 use Rattle.text.proofs.pin_at.Tie as tie
-
-returns : tie.Need-returns
-unfolding pinEntryAt
-returns c = rw (sym (c .before .before .with-comma .ensures) ∙ c .enum-told .given .1)
-
-returns-2 : tie.Need-returns-2
-unfolding pinEntryAt
-returns-2 c = rw (sym (c .before .before .before .before .before .before .with-comma .ensures) ∙ c .before .before .before .before .x .given .1, sym (c .before .before .with-comma2 .ensures) ∙ c .enum-told2 .given .1)
-
-returns-3 : tie.Need-returns-3
-unfolding pinEntryAt
-returns-3 c = rw (sym (c .before .before .before .before .before .before .before .before .before .before .with-comma .ensures) ∙ c .before .before .before .before .before .before .before .before .x .given .1, sym (c .before .before .before .before .before .before .with-comma2 .ensures) ∙ c .before .before .before .before .y .given .1, sym (c .before .before .number .ensures) ∙ c .enum-told3 .given .1)
-
-returns-4 : tie.Need-returns-4
-unfolding pinEntryAt
-returns-4 c = rw (sym (c .before .before .before .before .before .before .before .before .before .before .before .before .with-comma .ensures) ∙ c .before .before .before .before .before .before .before .before .before .before .x .given .1, sym (c .before .before .before .before .before .before .before .before .with-comma2 .ensures) ∙ c .before .before .before .before .before .before .y .given .1, sym (c .before .before .before .before .number .ensures) ∙ c .before .before .l .given .1) (c .break-at .ensures)
 
 pub pin-at-spec : {M : Type 1} → statement M
 pin-at-spec =
     tie.close
     (tie.spec
-    (λ c κs. search needs) (λ c. search needs) (λ c. search needs) returns (λ c κs. search needs) (λ c. search needs) (λ c. search needs) returns-2 (λ c κs. search needs) (λ c. search needs) (λ c. search needs) returns-3
-    (λ c κs. search needs) returns-4)
+    (λ c κs. search needs) (λ c. search needs) (λ c κs. search needs) (λ c. search needs) (λ c. search needs) (λ c. search needs)
+    (λ c. let g = c .before .x .given in
+    told-more (pinEntryAt (c .before .before .before .before .before .args .s .now) (c .before .before .before .before .before .args .at)) (c .before .before .before .short-pin .result) (g .0 .0) (g .0 .1 .0) (g .0 .1 .1 .0) (g .0 .1 .1 .1 .0) (c .before .before .before .short-pin .ensures) (g .1))
+    (λ c. let g = c .before .x2 .given in
+    told-last (pinEntryAt (c .before .before .before .before .before .args .s .now) (c .before .before .before .before .before .args .at)) (c .before .before .before .short-pin .result) (g .0 .0) (g .0 .1 .0) (g .0 .1 .1 .0) (g .0 .1 .1 .1 .0) (c .before .before .before .short-pin .ensures) (g .1)))

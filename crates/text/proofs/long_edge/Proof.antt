@@ -1,0 +1,24 @@
+use mathlib.Core.Path.{sym, _∙_}
+use Rattle.text.specs.Entries.{edgeEntryAt}
+use borrow.Author.Needs.{needs}
+use Rattle.text.proofs.long_edge.Statement.{statement}
+use Rattle.text.proofs.long_edge.Tie as tie
+
+returns : tie.Need-returns
+unfolding edgeEntryAt
+returns c = rw (sym (c .before .before .with-comma .ensures) ∙ c .enum-told .given .1)
+
+returns-2 : tie.Need-returns-2
+unfolding edgeEntryAt
+returns-2 c = rw (sym (c .before .before .before .before .before .before .with-comma .ensures) ∙ c .before .before .before .before .x .given .1, sym (c .before .before .with-comma2 .ensures) ∙ c .enum-told2 .given .1)
+
+returns-3 : tie.Need-returns-3
+unfolding edgeEntryAt
+returns-3 c = rw (sym (c .before .before .before .before .before .before .before .before .with-comma .ensures) ∙ c .before .before .before .before .before .before .x .given .1, sym (c .before .before .before .before .with-comma2 .ensures) ∙ c .before .before .y .given .1) (c .way-at .ensures)
+
+pub long-edge-spec : {M : Type 1} → statement M
+long-edge-spec =
+    tie.close
+    (tie.spec
+    (λ c κs. search needs) (λ c. search needs) (λ c. search needs) returns (λ c κs. search needs) (λ c. search needs) (λ c. search needs) returns-2
+    (λ c κs. search needs) returns-3)

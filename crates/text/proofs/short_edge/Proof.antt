@@ -1,0 +1,41 @@
+-- `short_edge` meets its contract.
+-- Assumes nothing.
+use Prim.Native.Nat.{_+_, _≤_}
+use native.Mathlib.Omega.{arith}
+use lib.ListN.{length}
+use borrow.Author.Needs.{needs}
+use Rattle.text.proofs.Brief.{roomy, short-found, edge-told}
+use Rattle.text.proofs.short_edge.Statement.{statement}
+use Rattle.text.proofs.short_edge.Tie as tie
+
+short-requires : tie.Need-short-requires
+short-requires c κs = let x = c .before .before .before .args in
+    let r : x .at + 8 ≤ length (x .s .now) = roomy _ _ _ (c .before .room .ensures) (c .if1 .left) in (omega (arith, r), omega arith)
+
+short-requires-2 : tie.Need-short-requires-2
+short-requires-2 c κs =
+    let x = c .before .before .before .before .before .before .before .args in
+    let r : x .at + 8 ≤ length (x .s .now) = roomy _ _ _ (c .before .before .before .before .before .room .ensures) (c .before .before .before .before .if1 .left) in
+    let g = c .before .x .given in
+    let f = short-found (x .s .now) (x .at) 44 (c .before .before .before .short .result) (g .0 .0) (g .0 .1 .0) (c .before .before .before .short .ensures) (g .1) in
+    (omega (arith, r, f .1), omega arith)
+
+returns-4 : tie.Need-returns-4
+returns-4 c =
+    let x = c .before .before .before .before .before .before .before .before .before .before .before .before .args in
+    let g = c .before .before .before .before .before .before .x .given in
+    let h = c .before .before .y .given in
+    let f = short-found (x .s .now) (x .at) 44 (c .before .before .before .before .before .before .before .before .short .result) (g .0 .0) (g .0 .1 .0) (c .before .before .before .before .before .before .before .before .short .ensures) (g .1) in
+    let k = short-found (x .s .now) (g .0 .1 .0) 44 (c .before .before .before .before .short2 .result) (h .0 .0) (h .0 .1 .0) (c .before .before .before .before .short2 .ensures) (h .1) in
+    edge-told (x .s .now) (x .at) (g .0 .0) (g .0 .1 .0) (h .0 .0) (h .0 .1 .0) (f .0) (k .0) (c .way-at .result) (c .way-at .ensures)
+
+pub short-edge-spec : {M : Type 1} → statement M
+short-edge-spec =
+    tie.close
+    (tie.spec
+    (λ c κs. search needs) (λ c. search needs)
+    short-requires
+    (λ c. search needs) (λ c. search needs) (λ c. search needs)
+    short-requires-2
+    (λ c. search needs) (λ c. search needs) (λ c. search needs) (λ c κs. search needs)
+    returns-4)
