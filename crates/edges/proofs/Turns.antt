@@ -26,10 +26,13 @@ use Rattle.ways.specs.Ends.{endsOf, endsAfter, first-mark, twice-marked, new-ma
 use Rattle.ways.specs.Entry.{startOf, edgeOf, Placed, placed}
 use Rattle.ways.specs.declared.Ends.the-variants.{Twice as Marked, New}
 use Rattle.edges.specs.Lists.{all-snoc, twice-snoc}
-use Rattle.edges.specs.Reading.{Reading, Few, Going, Shown, GoesOn, Ready, tilesOf, linksOf, edgesOn}
+use Rattle.edges.specs.Reading.{Reading, Few, Going, Shown, goesOn, GoesOn, Ready, tilesOf, linksOf, edgesOn}
 use Rattle.edges.specs.Steps.{counted-most, counted-some, marked-has, ring-then, reading-then}
 use Rattle.edges.specs.declared.Judged.{Judged}
 use Rattle.edges.specs.declared.Judged.the-variants.{Fine, Ring, Twice, Range}
+
+true-false : true ≡ false → ⊥
+true-false e = let y : _≡_ {A = ℕ} (bit true) (bit false) = ap bit e in omega (arith, y)
 
 -- ---- where nothing is marked any more
 
@@ -66,12 +69,18 @@ module _ (g : Shape) (ts : List Triple) (t : Triple) where
   still-once : twice eqb (edgesOn g ts) ≡ false → has (edgesOn g ts) (edgeOf g t) ≡ false → twice eqb (edgesOn g (ts ++ (t ∷ []))) ≡ false
   still-once a h = ap (twice eqb) on-snoc ∙ twice-snoc (edgesOn g ts) (edgeOf g t) ∙ rw (a, h)
 
-module _ (g : Shape) (n : ℕ) (ps : List Pin) (w₀ : List ℕ) (ts : List Triple) (parts : ℕ) (w : List ℕ) (t : Triple) (j : Judged) where
-  pub after-twice : j ≡ Twice → edgeInside (g .w) (g .h) t ≡ true → Shown g n ps w₀ ts parts w j → Shown g n ps w₀ (ts ++ (t ∷ [])) parts w Twice
-  after-twice e i s = let k = rw e at s in (all-in g ts t (k .0) i, still-twice g ts t (k .1))
+pub after-stop : (g : Shape) (n : ℕ) (ps : List Pin) (w₀ : List ℕ) (ts : List Triple) (parts : ℕ) (w : List ℕ) (t : Triple) (j : Judged)
+    → goesOn j ≡ false → edgeInside (g .w) (g .h) t ≡ true → Shown g n ps w₀ ts parts w j → Shown g n ps w₀ (ts ++ (t ∷ [])) parts w j
+after-stop g n ps w₀ ts parts w t Fine e i s = absurd (true-false e)
+after-stop g n ps w₀ ts parts w t Ring e i s = absurd (true-false e)
+after-stop g n ps w₀ ts parts w t Twice e i s = (all-in g ts t (s .0) i, still-twice g ts t (s .1))
+after-stop g n ps w₀ ts parts w t Range e i s = still-out g ts t s
 
-  pub after-range : j ≡ Range → Shown g n ps w₀ ts parts w j → Shown g n ps w₀ (ts ++ (t ∷ [])) parts w Range
-  after-range e s = still-out g ts t (rw e at s)
+pub still-going : (j : Judged) → goesOn j ≡ true → GoesOn j
+still-going Fine e = tt
+still-going Ring e = tt
+still-going Twice e = absurd (true-false (sym e))
+still-going Range e = absurd (true-false (sym e))
 
 -- ---- where the marks go on
 

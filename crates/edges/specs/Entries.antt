@@ -16,6 +16,8 @@ use Rattle.scan.specs.Pins.{triple}
 use Rattle.scan.specs.Places.{getD-in}
 use Rattle.scan.specs.Ways.{edgesOf}
 use Rattle.text.specs.Entries.{onNumber, commaAt, broken, edgeEntryAt}
+use Rattle.text.specs.Items.{entryOf, entry-is}
+use Rattle.text.specs.declared.Item.{Item}
 use Rattle.text.specs.declared.Entry.{Entry}
 use Rattle.text.specs.declared.Entry.the-variants.{More, Last, Bad}
 use Rattle.text.specs.declared.Numeral.{Numeral}
@@ -73,6 +75,14 @@ entered s i = first (commaAt s i)
 
 pub entry-fits : (s : List ℕ) (i : ℕ) (e : Entry) → e ≡ edgeEntryAt s i → Entered s e
 entry-fits s i e h = rw h (entered s i)
+
+-- the same of an entry taken apart
+pub item-fits : (s : List ℕ) (i : ℕ) (r : Item) → r .good ≡ true → entryOf r ≡ edgeEntryAt s i → (r .z ≤ 1) × (r .next ≤ length s)
+item-fits s i r g h = go (r .last) refl
+  where
+    go : (q : Bool) → r .last ≡ q → (r .z ≤ 1) × (r .next ≤ length s)
+    go true e = entry-fits s i (Last (r .x) (r .y) (r .z) (r .next)) (entry-is r (edgeEntryAt s i) true true g e h)
+    go false e = entry-fits s i (More (r .x) (r .y) (r .z) (r .next)) (entry-is r (edgeEntryAt s i) true false g e h)
 
 -- ---- by what stands at the place
 

@@ -1,6 +1,6 @@
 -- What the working numbers hold while the `edges` line of a net is read, and what its entries have shown so far.
 -- Assumes nothing.
-use mathlib.Core.Bool.{true, false}
+use mathlib.Core.Bool.{Bool, true, false}
 use mathlib.Core.List.{List, [], map}
 use mathlib.Core.Path.{_≡_}
 use Prim.Native.Nat.{ℕ, _+_, _≤_, _<_}
@@ -75,6 +75,12 @@ Shown g n ps w₀ ts parts w Twice = (all (edgeInside (g .w) (g .h)) ts ≡ true
 Shown g n ps w₀ ts parts w Range = all (edgeInside (g .w) (g .h)) ts ≡ false
 
 -- the marks go on
+abbrev pub goesOn : Judged → Bool
+goesOn Fine = true
+goesOn Ring = true
+goesOn Twice = false
+goesOn Range = false
+
 abbrev pub GoesOn : Judged → Type 0
 GoesOn Fine = Unit {0}
 GoesOn Ring = Unit {0}

@@ -1,7 +1,6 @@
 // The `edges` line of a net, judged from left to right: the form of the whole line first, then range, the same edge twice, a ring, and reach. Its edges are
 // marked by tile, their ends joined, and each is counted into the flat demand.
 use layout::Shape;
-use text::Entry;
 use text::Fault;
 use ways::Ends;
 ghost use mathlib.Core.Path.{_≡_};
@@ -18,7 +17,7 @@ ghost use Rattle.scan.specs.Pins.{triple};
 ghost use Rattle.scan.specs.Ways.{edgesOf};
 ghost use Rattle.union.specs.Links.{Links, Merged};
 ghost use Rattle.ways.specs.Ends.{endsOf, endsAfter};
-ghost use Rattle.edges.specs.Reading.{tilesOf, linksOf, Reading, Few, Begun, Shown, GoesOn, Ready};
+ghost use Rattle.edges.specs.Reading.{tilesOf, linksOf, Reading, Few, Begun, Shown, goesOn, GoesOn, Ready};
 ghost use Rattle.edges.specs.Line.{verdictOf, EntriesRead, LineRead};
 
 // What the entries of a line have shown so far, the worst of it: "On one line the lower number wins".
@@ -133,6 +132,18 @@ fn add_edge(w: &mut [u32], g: Shape, stamp: u32, v: Seen, x: usize, y: usize, d:
     }
 }
 
+// Whether edges are still marked.
+fn goes_on(j: Judged) -> bool
+    ensures { λ r. ⌜ r ≡ goesOn j ⌝ }
+{
+    match j {
+        Judged::Fine => true,
+        Judged::Ring => true,
+        Judged::Twice => false,
+        Judged::Range => false,
+    }
+}
+
 // One more entry. Where one has left the grid, or an edge is there twice, nothing is marked any more: only form and range can still decide.
 fn put_edge(w: &mut [u32], g: Shape, stamp: u32, v: Seen, x: usize, y: usize, d: usize) -> Seen
     requires { ⌜ Shaped g ⌝ }
@@ -152,19 +163,13 @@ fn put_edge(w: &mut [u32], g: Shape, stamp: u32, v: Seen, x: usize, y: usize, d:
         };
     }
     let judged = v.judged;
-    match judged {
-        Judged::Fine => add_edge(w, g, stamp, v, x, y, d),
-        Judged::Ring => add_edge(w, g, stamp, v, x, y, d),
-        Judged::Twice => Seen {
-            entries,
-            parts,
-            judged: Judged::Twice,
-        },
-        Judged::Range => Seen {
-            entries,
-            parts,
-            judged: Judged::Range,
-        },
+    if goes_on(judged) {
+        return add_edge(w, g, stamp, v, x, y, d);
+    }
+    Seen {
+        entries,
+        parts,
+        judged,
     }
 }
 
@@ -201,18 +206,15 @@ fn edges(s: &[u8], at: usize, w: &mut [u32], g: Shape, stamp: u32, parts: usize)
         judged: Judged::Fine,
     };
     loop {
-        match text::edge_at(s, i) {
-            Entry::Bad => {
-                return EdgesRead::Bad(Fault::Form);
-            }
-            Entry::Last(x, y, d, next) => {
-                let z = put_edge(w, g, stamp, v, x, y, d);
-                return verdict(z, next);
-            }
-            Entry::More(x, y, d, next) => {
-                v = put_edge(w, g, stamp, v, x, y, d);
-                i = next;
-            }
+        let entry = text::edge_at(s, i);
+        let e = text::item_of(entry);
+        if !e.good {
+            return EdgesRead::Bad(Fault::Form);
+        }
+        v = put_edge(w, g, stamp, v, e.x, e.y, e.z);
+        i = e.next;
+        if e.last {
+            return verdict(v, i);
         }
     }
 }

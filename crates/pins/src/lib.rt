@@ -1,7 +1,6 @@
 // The `pins` line of a net, judged and marked from left to right: the form of the whole line first, then range, then the same pin twice.
 use layout::Shape;
 use marks::Put;
-use text::Entry;
 use text::Fault;
 ghost use mathlib.Core.Path.{_≡_};
 ghost use mathlib.Core.Bool.{true, false};
@@ -129,18 +128,15 @@ pub fn pins(s: &[u8], at: usize, a: &mut [u32], g: Shape, stamp: u32) -> PinsRea
         twice: false,
     };
     loop {
-        match text::pin_at(s, i) {
-            Entry::Bad => {
-                return PinsRead::Bad(Fault::Form);
-            }
-            Entry::Last(x, y, l, next) => {
-                let z = put_pin(a, g, stamp, v, x, y, l);
-                return verdict(z, next);
-            }
-            Entry::More(x, y, l, next) => {
-                v = put_pin(a, g, stamp, v, x, y, l);
-                i = next;
-            }
+        let entry = text::pin_at(s, i);
+        let e = text::item_of(entry);
+        if !e.good {
+            return PinsRead::Bad(Fault::Form);
+        }
+        v = put_pin(a, g, stamp, v, e.x, e.y, e.z);
+        i = e.next;
+        if e.last {
+            return verdict(v, i);
         }
     }
 }

@@ -1,12 +1,16 @@
 -- `edges` meets its contract. The loop's invariant: the entries read so far, and what they have shown.
 -- Assumes nothing.
-use mathlib.Core.Path.{sym, _∙_}
+use mathlib.Core.Bool.{true, false}
+use mathlib.Core.Path.{_≡_, refl, _∙_}
 use Prim.Native.Nat.{_-_}
 use native.Mathlib.Omega.{arith}
 use lib.ListN.{length}
 use borrow.Author.Needs.{needs}
-use Rattle.text.specs.declared.Entry.the-variants.{More, Last}
-use Rattle.edges.specs.Entries.{entry-fits, place-more}
+use borrow.Author.Tests.{not-true, not-false}
+use Rattle.text.specs.declared.Entry.the-variants.{More}
+use Rattle.text.specs.Entries.{edgeEntryAt}
+use Rattle.text.specs.Items.{entry-is}
+use Rattle.edges.specs.Entries.{entry-fits, item-fits, place-more}
 use Rattle.edges.proofs.Loop.{Passed, passed-start, passed-ready, passed-bad, passed-more, passed-last}
 use Rattle.edges.proofs.edges.Statement.{statement}
 use Rattle.edges.proofs.edges.Tie as tie
@@ -19,17 +23,18 @@ abbrev μ-loop : tie.MeasureT-loop
 
 returns : tie.Need-returns Inv-loop μ-loop
 returns c =
-    let l = c .before .before .before .loop in
-    let x = c .before .before .before .before .before .before .args in
-    (λ ps b h r. passed-bad (x .g) (x .stamp) (x .parts) (x .s .now) (x .at) (x .w .now) (l .w) (l .i) (l .v) (l .inv) (sym (c .enum-told .given .1) ∙ c .before .before .edge-at .ensures) ps b, l .inv .long)
+    let l = c .before .before .before .before .loop in
+    let x = c .before .before .before .before .before .before .before .args in
+    let r = c .before .before .item-of .result in
+    let e = entry-is r (edgeEntryAt (x .s .now) (l .i)) false (r .last) (not-true _ (c .if1 .taken)) refl (c .before .before .item-of .ensures ∙ c .before .before .before .edge-at .ensures) in
+    (λ ps b h k. passed-bad (x .g) (x .stamp) (x .parts) (x .s .now) (x .at) (x .w .now) (l .w) (l .i) (l .v) (l .inv) e ps b, l .inv .long)
 
 put-edge-requires : tie.Need-put-edge-requires Inv-loop μ-loop
 put-edge-requires c κs =
     let l = c .before .before .before .before .before .loop in
     let x = c .before .before .before .before .before .before .before .before .args in
     let p = c .before .before .before .before .before .before .before .before .pre in
-    let e = c .before .before .x .given in
-    let f = entry-fits (x .s .now) (l .i) (Last (e .0 .0) (e .0 .1 .0) (e .0 .1 .1 .0) (e .0 .1 .1 .1 .0)) (sym (e .1) ∙ c .before .before .before .before .edge-at .ensures) in (
+    let f = item-fits (x .s .now) (l .i) (c .before .before .before .item-of .result) (not-false _ (c .before .if1 .left)) (c .before .before .before .item-of .ensures ∙ c .before .before .before .before .edge-at .ensures) in (
       p .0,
       (
         (omega (arith, p .1 .0 .0, l .inv .long), p .1 .0 .1, omega (arith, p .1 .0 .2, l .inv .few), f .0),
@@ -39,45 +44,35 @@ put-edge-requires c κs =
 
 returns-2 : tie.Need-returns-2 Inv-loop μ-loop
 returns-2 c =
-    let l = c .before .before .before .before .before .before .before .before .before .loop in
-    let x = c .before .before .before .before .before .before .before .before .before .before .before .before .args in
-    let e = c .before .before .before .before .before .before .x .given in
-    let p = c .before .before .before .put-edge in (
-      passed-last (x .g) (x .stamp) (x .parts) (x .s .now) (x .at) (x .w .now) (l .w) (l .i) (l .v) (l .inv) (e .0 .0) (e .0 .1 .0) (e .0 .1 .1 .0) (e .0 .1 .1 .1 .0) (p .last .0) (p .result)
-          (p .ensures .1 .1) (p .ensures .1 .0) (p .ensures .0) (sym (e .1) ∙ c .before .before .before .before .before .before .before .before .edge-at .ensures) (c .verdict .result) (c .verdict .ensures),
+    let l = c .before .before .before .before .before .before .before .before .before .before .loop in
+    let x = c .before .before .before .before .before .before .before .before .before .before .before .before .before .args in
+    let r = c .before .before .before .before .before .before .before .before .item-of .result in
+    let p = c .before .before .before .before .put-edge in
+    let e = entry-is r (edgeEntryAt (x .s .now) (l .i)) true true (not-false _ (c .before .before .before .before .before .before .if1 .left)) (c .before .if2 .taken) (c .before .before .before .before .before .before .before .before .item-of .ensures ∙ c .before .before .before .before .before .before .before .before .before .edge-at .ensures) in (
+      passed-last (x .g) (x .stamp) (x .parts) (x .s .now) (x .at) (x .w .now) (l .w) (l .i) (l .v) (l .inv) (r .x) (r .y) (r .z) (r .next) (p .last .0) (p .result)
+          (p .ensures .1 .1) (p .ensures .1 .0) (p .ensures .0) e (c .verdict .result) (c .verdict .ensures),
       p .ensures .1 .1 ∙ l .inv .long,
     )
 
-put-edge-requires-2 : tie.Need-put-edge-requires-2 Inv-loop μ-loop
-put-edge-requires-2 c κs =
-    let l = c .before .before .before .before .before .loop in
-    let x = c .before .before .before .before .before .before .before .before .args in
-    let p = c .before .before .before .before .before .before .before .before .pre in
-    let e = c .before .before .x2 .given in
-    let f = entry-fits (x .s .now) (l .i) (More (e .0 .0) (e .0 .1 .0) (e .0 .1 .1 .0) (e .0 .1 .1 .1 .0)) (sym (e .1) ∙ c .before .before .before .before .edge-at .ensures) in (
-      p .0,
-      (
-        (omega (arith, p .1 .0 .0, l .inv .long), p .1 .0 .1, omega (arith, p .1 .0 .2, l .inv .few), f .0),
-        passed-ready (x .g) (x .stamp) (x .parts) (x .s .now) (x .at) (x .w .now) (l .w) (l .i) (l .v) (l .inv) (p .0) (p .1 .0 .1) (p .1 .1 .0) (p .1 .1 .1),
-      ),
-    )
+-- the entry has more behind it
+more : (c : tie.Else2 Inv-loop μ-loop) → let r = c .before .before .before .before .before .before .before .item-of .result in More (r .x) (r .y) (r .z) (r .next) ≡ edgeEntryAt (c .before .before .before .before .before .before .before .before .before .before .before .before .args .s .now) (c .before .before .before .before .before .before .before .before .before .loop .i)
+more c = entry-is (c .before .before .before .before .before .before .before .item-of .result) (edgeEntryAt (c .before .before .before .before .before .before .before .before .before .before .before .before .args .s .now) (c .before .before .before .before .before .before .before .before .before .loop .i)) true false (not-false _ (c .before .before .before .before .before .if1 .left)) (c .if2 .left) (c .before .before .before .before .before .before .before .item-of .ensures ∙ c .before .before .before .before .before .before .before .before .edge-at .ensures)
 
 loop-less : tie.Need-loop-less Inv-loop μ-loop
 loop-less c =
-    let l = c .before .before .before .before .before .before .before .before .loop in
-    let x = c .before .before .before .before .before .before .before .before .before .before .before .args in
-    let e = c .before .before .before .before .before .x2 .given in
-    let q = sym (e .1) ∙ c .before .before .before .before .before .before .before .edge-at .ensures in
-    omega (arith, place-more (x .s .now) (x .at) (l .i) (l .inv .entries) (l .inv .text) (e .0 .0) (e .0 .1 .0) (e .0 .1 .1 .0) (e .0 .1 .1 .1 .0) q, entry-fits (x .s .now) (l .i) (More (e .0 .0) (e .0 .1 .0) (e .0 .1 .1 .0) (e .0 .1 .1 .1 .0)) q .1)
+    let l = c .before .before .before .before .before .before .before .before .before .loop in
+    let x = c .before .before .before .before .before .before .before .before .before .before .before .before .args in
+    let r = c .before .before .before .before .before .before .before .item-of .result in
+    omega (arith, place-more (x .s .now) (x .at) (l .i) (l .inv .entries) (l .inv .text) (r .x) (r .y) (r .z) (r .next) (more c), entry-fits (x .s .now) (l .i) (More (r .x) (r .y) (r .z) (r .next)) (more c) .1)
 
 loop-again : tie.Need-loop-again Inv-loop μ-loop
 loop-again c =
-    let l = c .before .before .before .before .before .before .before .before .loop in
-    let x = c .before .before .before .before .before .before .before .before .before .before .before .args in
-    let e = c .before .before .before .before .before .x2 .given in
-    let p = c .before .before .put-edge2 in
-    passed-more (x .g) (x .stamp) (x .parts) (x .s .now) (x .at) (x .w .now) (l .w) (l .i) (l .v) (l .inv) (e .0 .0) (e .0 .1 .0) (e .0 .1 .1 .0) (e .0 .1 .1 .1 .0) (p .last .0) (p .result)
-    (p .ensures .1 .1) (p .ensures .1 .0) (p .ensures .0) (sym (e .1) ∙ c .before .before .before .before .before .before .before .edge-at .ensures)
+    let l = c .before .before .before .before .before .before .before .before .before .loop in
+    let x = c .before .before .before .before .before .before .before .before .before .before .before .before .args in
+    let r = c .before .before .before .before .before .before .before .item-of .result in
+    let p = c .before .before .before .put-edge in
+    passed-more (x .g) (x .stamp) (x .parts) (x .s .now) (x .at) (x .w .now) (l .w) (l .i) (l .v) (l .inv) (r .x) (r .y) (r .z) (r .next) (p .last .0) (p .result)
+    (p .ensures .1 .1) (p .ensures .1 .0) (p .ensures .0) (more c)
 
 pub edges-spec : {M : Type 1} → statement M
 edges-spec =
@@ -85,7 +80,7 @@ edges-spec =
     (tie.spec
     Inv-loop μ-loop
     (λ c. let x = c .before .before .args in passed-start (x .g) (x .stamp) (x .parts) (x .s .now) (x .at) (x .w .now))
-    (λ c κs. search needs) (λ c. search needs) (λ c. c .before .before .before .loop .inv .long) returns
-    (λ c. search needs) put-edge-requires (λ c κs. search needs)
-    (λ c. c .before .before .before .put-edge .ensures .1 .1 ∙ c .before .before .before .before .before .before .before .before .before .loop .inv .long) returns-2
-    (λ c. search needs) put-edge-requires-2 loop-less loop-again)
+    (λ c κs. search needs) (λ c κs. search needs) (λ c. c .before .before .before .before .loop .inv .long) returns
+    put-edge-requires (λ c κs. search needs)
+    (λ c. c .before .before .before .before .put-edge .ensures .1 .1 ∙ c .before .before .before .before .before .before .before .before .before .before .loop .inv .long) returns-2
+    loop-less loop-again)

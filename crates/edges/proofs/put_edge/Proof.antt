@@ -6,8 +6,7 @@ use borrow.Author.Needs.{needs}
 use borrow.Author.Tests.{not-true, not-false}
 use Rattle.model.specs.Read.{edgeInside}
 use Rattle.scan.specs.Pins.{triple}
-use Rattle.edges.specs.Reading.{GoesOn}
-use Rattle.edges.proofs.Turns.{all-out, after-twice, after-range}
+use Rattle.edges.proofs.Turns.{all-out, after-stop, still-going}
 use Rattle.edges.proofs.put_edge.Statement.{statement}
 use Rattle.edges.proofs.put_edge.Tie as tie
 
@@ -28,31 +27,17 @@ add-edge-requires : tie.Need-add-edge-requires
 add-edge-requires c κs =
     let m = c .before .before .before in
     let p = start m .pre in
-    let on : GoesOn (start m .args .v .judged) = rw (c .before .enum-told .given .1) tt in
+    let on = still-going (start m .args .v .judged) (sym (c .before .before .goes-on .ensures) ∙ c .before .if2 .taken) in
     (p .0, ((p .1 .0 .0, p .1 .0 .1, p .1 .0 .2, p .1 .0 .3, is-inside m), (p .1 .1 on, on)))
 
-add-edge-requires-2 : tie.Need-add-edge-requires-2
-add-edge-requires-2 c κs =
-    let m = c .before .before .before in
-    let p = start m .pre in
-    let on : GoesOn (start m .args .v .judged) = rw (c .before .enum-told2 .given .1) tt in
-    (p .0, ((p .1 .0 .0, p .1 .0 .1, p .1 .0 .2, p .1 .0 .3, is-inside m), (p .1 .1 on, on)))
-
-returns-4 : tie.Need-returns-4
-returns-4 c =
+returns-3 : tie.Need-returns-3
+returns-3 c =
     let m = c .before .before in
     let x = start m .args in
-    (λ ps w₀ ts s. after-twice (x .g) (x .stamp) ps w₀ ts (x .v .parts) (x .w .now) (triple (x .x) (x .y) (x .d)) (x .v .judged) (c .enum-told3 .given .1) (is-inside m) s, (refl, refl))
-
-returns-5 : tie.Need-returns-5
-returns-5 c =
-    let m = c .before .before in
-    let x = start m .args in
-    (λ ps w₀ ts s. after-range (x .g) (x .stamp) ps w₀ ts (x .v .parts) (x .w .now) (triple (x .x) (x .y) (x .d)) (x .v .judged) (c .enum-told4 .given .1) s, (refl, refl))
+    (λ ps w₀ ts s. after-stop (x .g) (x .stamp) ps w₀ ts (x .v .parts) (x .w .now) (triple (x .x) (x .y) (x .d)) (x .v .judged) (sym (c .before .goes-on .ensures) ∙ c .if2 .left) (is-inside m) s, (refl, refl))
 
 pub put-edge-spec : {M : Type 1} → statement M
 put-edge-spec =
     tie.close
     (tie.spec
-    (λ c. search needs) (λ c κs. search needs) returns (λ c. search needs) add-edge-requires (λ c. search needs) add-edge-requires-2 (λ c. search needs) (λ c. search needs)
-    (λ c. search needs) (λ c. c .before .before .add-edge .ensures) (λ c. search needs) (λ c. c .before .before .add-edge2 .ensures) returns-4 returns-5)
+    (λ c. search needs) (λ c κs. search needs) returns (λ c κs. search needs) add-edge-requires (λ c. search needs) (λ c. c .before .before .add-edge .ensures) returns-3)

@@ -1,10 +1,15 @@
 -- `pins` meets its contract. The loop's invariant: what is left of the line, done from here, gives the whole answer.
 -- Assumes nothing.
+use mathlib.Core.Bool.{true, false}
 use mathlib.Core.Path.{_≡_, refl, sym, ap, _∙_}
 use Prim.Native.Nat.{ℕ, _+_, _*_, _-_, _≤_, _<_}
 use native.Mathlib.Omega.{arith}
 use lib.ListN.{length, drop}
 use borrow.Author.Needs.{needs}
+use borrow.Author.Tests.{not-true, not-false}
+use Rattle.text.specs.Entries.{pinEntryAt}
+use Rattle.text.specs.Items.{entry-is}
+use Rattle.text.specs.declared.Entry.the-variants.{More}
 use Rattle.scan.specs.Pins.{triple, pinsOf}
 use Rattle.pins.specs.Pins.{start, finish}
 use Rattle.pins.specs.declared.Seen.{Seen}
@@ -23,60 +28,67 @@ abbrev μ-loop : tie.MeasureT-loop
 
 returns : tie.Need-returns Inv-loop μ-loop
 returns c =
-    let l = c .before .before .before in
-    let x = c .before .before .before .before .before .before .args in
-    (λ n. sym (l .loop .inv .4 n ∙ turn-bad (x .g) (x .stamp) (x .s .now) (l .loop .i) (l .loop .v) (l .loop .a) (sym (c .enum-told .given .1) ∙ c .before .before .pin-at .ensures) n), (tt, l .loop .inv .0))
+    let l = c .before .before .before .before .loop in
+    let x = c .before .before .before .before .before .before .before .args in
+    let r = c .before .before .item-of .result in
+    let e = entry-is r (pinEntryAt (x .s .now) (l .i)) false (r .last) (not-true _ (c .if1 .taken)) refl (c .before .before .item-of .ensures ∙ c .before .before .before .pin-at .ensures) in
+    (λ n. sym (l .inv .4 n ∙ turn-bad (x .g) (x .stamp) (x .s .now) (l .i) (l .v) (l .a) e n), (tt, l .inv .0))
+
+put-pin-requires : tie.Need-put-pin-requires Inv-loop μ-loop
+put-pin-requires c κs =
+    let l = c .before .before .before .before .before .loop in
+    let p = c .before .before .before .before .before .before .before .before .pre in
+    (p .0, (omega (arith, p .1 .0, l .inv .0), p .1 .1, omega (arith, p .1 .2, l .inv .3), l .inv .1))
 
 same-length-2 : tie.Need-same-length-2 Inv-loop μ-loop
 same-length-2 c =
-    let l = c .before .before .before .before .before .before .before .before .before in
-    let x = c .before .before .before .before .before .before .before .before .before .before .before .before .args in
-    let e = c .before .before .before .before .before .before .x .given in
-    let p = c .before .before .before .put-pin in
-    ap length (p .ensures .1) ∙ work-long (x .g) (x .stamp) (l .loop .a) (triple (e .0 .0) (e .0 .1 .0) (e .0 .1 .1 .0)) ∙ l .loop .inv .0
+    let l = c .before .before .before .before .before .before .before .before .before .before .loop in
+    let x = c .before .before .before .before .before .before .before .before .before .before .before .before .before .args in
+    let r = c .before .before .before .before .before .before .before .before .item-of .result in
+    let p = c .before .before .before .before .put-pin in
+    ap length (p .ensures .1) ∙ work-long (x .g) (x .stamp) (l .a) (triple (r .x) (r .y) (r .z)) ∙ l .inv .0
 
 returns-2 : tie.Need-returns-2 Inv-loop μ-loop
 returns-2 c =
-    let l = c .before .before .before .before .before .before .before .before .before in
-    let x = c .before .before .before .before .before .before .before .before .before .before .before .before .args in
-    let e = c .before .before .before .before .before .before .x .given in
-    let p = c .before .before .before .put-pin in (
-      λ n. sym (l .loop .inv .4 n ∙ turn-last (x .g) (x .stamp) (x .s .now) (l .loop .i) (l .loop .v) (l .loop .a)
-          (e .0 .0) (e .0 .1 .0) (e .0 .1 .1 .0) (e .0 .1 .1 .1 .0) (p .result) (p .last .0) (p .ensures .0) (p .ensures .1) (c .verdict .result) (c .verdict .ensures)
-          (sym (e .1) ∙ c .before .before .before .before .before .before .before .before .pin-at .ensures) n),
+    let l = c .before .before .before .before .before .before .before .before .before .before .loop in
+    let x = c .before .before .before .before .before .before .before .before .before .before .before .before .before .args in
+    let r = c .before .before .before .before .before .before .before .before .item-of .result in
+    let p = c .before .before .before .before .put-pin in
+    let e = entry-is r (pinEntryAt (x .s .now) (l .i)) true true (not-false _ (c .before .before .before .before .before .before .if1 .left)) (c .before .if2 .taken) (c .before .before .before .before .before .before .before .before .item-of .ensures ∙ c .before .before .before .before .before .before .before .before .before .pin-at .ensures) in (
+      λ n. sym (l .inv .4 n ∙ turn-last (x .g) (x .stamp) (x .s .now) (l .i) (l .v) (l .a)
+          (r .x) (r .y) (r .z) (r .next) (p .result) (p .last .0) (p .ensures .0) (p .ensures .1) (c .verdict .result) (c .verdict .ensures) e n),
       (
-        last-place (x .s .now) (l .loop .i) (e .0 .0) (e .0 .1 .0) (e .0 .1 .1 .0) (e .0 .1 .1 .1 .0)
-            (sym (e .1) ∙ c .before .before .before .before .before .before .before .before .pin-at .ensures) (p .result) (c .verdict .result) (c .verdict .ensures),
-        ap length (p .ensures .1) ∙ work-long (x .g) (x .stamp) (l .loop .a) (triple (e .0 .0) (e .0 .1 .0) (e .0 .1 .1 .0)) ∙ l .loop .inv .0,
+        last-place (x .s .now) (l .i) (r .x) (r .y) (r .z) (r .next) e (p .result) (c .verdict .result) (c .verdict .ensures),
+        same-length-2 c,
       ),
     )
 
+-- the entry has more behind it
+more : (c : tie.Else2 Inv-loop μ-loop) → let r = c .before .before .before .before .before .before .before .item-of .result in More (r .x) (r .y) (r .z) (r .next) ≡ pinEntryAt (c .before .before .before .before .before .before .before .before .before .before .before .before .args .s .now) (c .before .before .before .before .before .before .before .before .before .loop .i)
+more c = entry-is (c .before .before .before .before .before .before .before .item-of .result) (pinEntryAt (c .before .before .before .before .before .before .before .before .before .before .before .before .args .s .now) (c .before .before .before .before .before .before .before .before .before .loop .i)) true false (not-false _ (c .before .before .before .before .before .if1 .left)) (c .if2 .left) (c .before .before .before .before .before .before .before .item-of .ensures ∙ c .before .before .before .before .before .before .before .before .pin-at .ensures)
+
 loop-less : tie.Need-loop-less Inv-loop μ-loop
 loop-less c =
-    let l = c .before .before .before .before .before .before .before .before in
-    let x = c .before .before .before .before .before .before .before .before .before .before .before .args in
-    let e = c .before .before .before .before .before .x2 .given in
-    let t = turn-place (x .s .now) (l .loop .i) (e .0 .0) (e .0 .1 .0) (e .0 .1 .1 .0) (e .0 .1 .1 .1 .0) (sym (e .1) ∙ c .before .before .before .before .before .before .before .pin-at .ensures) in
+    let r = c .before .before .before .before .before .before .before .item-of .result in
+    let t = turn-place (c .before .before .before .before .before .before .before .before .before .before .before .before .args .s .now) (c .before .before .before .before .before .before .before .before .before .loop .i) (r .x) (r .y) (r .z) (r .next) (more c) in
     omega (arith, t .0, t .1)
 
 loop-again : tie.Need-loop-again Inv-loop μ-loop
 loop-again c =
-    let l = c .before .before .before .before .before .before .before .before in
-    let x = c .before .before .before .before .before .before .before .before .before .before .before .args in
-    let e = c .before .before .before .before .before .x2 .given in
-    let p = c .before .before .put-pin2 in
-    let y = triple (e .0 .0) (e .0 .1 .0) (e .0 .1 .1 .0) in
-    let t = turn-place (x .s .now) (l .loop .i) (e .0 .0) (e .0 .1 .0) (e .0 .1 .1 .0) (e .0 .1 .1 .1 .0) (sym (e .1) ∙ c .before .before .before .before .before .before .before .pin-at .ensures) in
-    let k = seen-counts (x .g) (x .stamp) (l .loop .a) (l .loop .v) y (l .loop .inv .1) in (
-      ap length (p .ensures .1) ∙ work-long (x .g) (x .stamp) (l .loop .a) y ∙ l .loop .inv .0,
+    let l = c .before .before .before .before .before .before .before .before .before .loop in
+    let x = c .before .before .before .before .before .before .before .before .before .before .before .before .args in
+    let r = c .before .before .before .before .before .before .before .item-of .result in
+    let p = c .before .before .before .put-pin in
+    let y = triple (r .x) (r .y) (r .z) in
+    let t = turn-place (x .s .now) (l .i) (r .x) (r .y) (r .z) (r .next) (more c) in
+    let k = seen-counts (x .g) (x .stamp) (l .a) (l .v) y (l .inv .1) in (
+      ap length (p .ensures .1) ∙ work-long (x .g) (x .stamp) (l .a) y ∙ l .inv .0,
       rw (p .ensures .0) (k .1),
-      omega (arith, t .0, k .0, ap (λ (z : Seen). z .entries) (p .ensures .0), l .loop .inv .2),
-      omega (arith, t .0, t .1, k .0, ap (λ (z : Seen). z .entries) (p .ensures .0), l .loop .inv .2),
+      omega (arith, t .0, k .0, ap (λ (z : Seen). z .entries) (p .ensures .0), l .inv .2),
+      omega (arith, t .0, t .1, k .0, ap (λ (z : Seen). z .entries) (p .ensures .0), l .inv .2),
       λ n.
-          l .loop .inv .4 n
-          ∙ turn-more (x .g) (x .stamp) (x .s .now) (l .loop .i) (l .loop .v) (l .loop .a)
-          (e .0 .0) (e .0 .1 .0) (e .0 .1 .1 .0) (e .0 .1 .1 .1 .0) (p .result) (p .last .0) (p .ensures .0) (p .ensures .1)
-          (sym (e .1) ∙ c .before .before .before .before .before .before .before .pin-at .ensures) n,
+          l .inv .4 n
+          ∙ turn-more (x .g) (x .stamp) (x .s .now) (l .i) (l .v) (l .a) (r .x) (r .y) (r .z) (r .next) (p .result) (p .last .0) (p .ensures .0) (p .ensures .1) (more c) n,
     )
 
 pub pins-spec : {M : Type 1} → statement M
@@ -85,18 +97,11 @@ pins-spec =
     (tie.spec
     Inv-loop μ-loop
     (λ c. (refl, omega arith, omega arith, omega arith, λ n. refl))
-    (λ c κs. search needs) (λ c. search needs)
-    (λ c. c .before .before .before .loop .inv .0)
+    (λ c κs. search needs) (λ c κs. search needs)
+    (λ c. c .before .before .before .before .loop .inv .0)
     returns
-    (λ c. search needs)
-    (λ c κs. let l = c .before .before .before .before .before in
-    let r = c .before .before .before .before .before .before .before .before .pre in
-    (r .0, (omega (arith, r .1 .0, l .loop .inv .0), r .1 .1, omega (arith, r .1 .2, l .loop .inv .3), l .loop .inv .1)))
+    put-pin-requires
     (λ c κs. search needs)
     same-length-2
     returns-2
-    (λ c. search needs)
-    (λ c κs. let l = c .before .before .before .before .before in
-    let r = c .before .before .before .before .before .before .before .before .pre in
-    (r .0, (omega (arith, r .1 .0, l .loop .inv .0), r .1 .1, omega (arith, r .1 .2, l .loop .inv .3), l .loop .inv .1)))
     loop-less loop-again)
