@@ -142,6 +142,41 @@ interval-is : (w : List ℕ) (o first k s e : ℕ) → interval w o first k s e 
 unfolding interval
 interval-is w o first k s e = refl
 
+-- ---- combinations as lists
+
+module _ (w : List ℕ) (o first k K base v : ℕ) (few : k ≤ 3) (some : 1 ≤ K)
+    (low-z : (z : List ℕ) → length z ≡ k → Covers 1 K z → v ≤ spanOf (maskOf base z) + below (rowAt w o) first z)
+    (hit-z : v < illegalCost → (z : List ℕ) × (length z ≡ k) × Covers 1 K z × (spanOf (maskOf base z) + below (rowAt w o) first z ≡ v))
+    (top : v ≤ illegalCost) where
+  pub by-lists : LeastCost w o first k K base v
+  by-lists = record {
+    low = λ a′ b′ c′ t.
+        low-z (comb k a′ b′ c′) (comb-length k a′ b′ c′ few)
+        (covers-comb 1 K k a′ b′ c′ (t .0, omega (arith, t .1, tried-le 1 k K some)) (t .2, omega (arith, t .3, tried-le 2 k K some))
+        (t .4, omega (arith, t .5, tried-le 3 k K some)));
+    hit = go (lt-or-ge v illegalCost);
+  }
+    where
+      Hit : Type 0
+      Hit = (v ≡ illegalCost) ⊎ ((a′ : ℕ) × (b′ : ℕ) × (c′ : ℕ) × Turn (layersTried 1 k K) (layersTried 2 k K) (layersTried 3 k K) a′ b′ c′ × (combinationCost w o first k base a′ b′ c′ ≡ v))
+
+      turn : (z : List ℕ) → length z ≡ k → Covers 1 K z → spanOf (maskOf base z) + below (rowAt w o) first z ≡ v → Hit
+      turn z n c e =
+          let t = choice-turn K z some (omega (arith, n)) c in
+          inr (
+            t .0,
+            t .1,
+            t .2,
+            subst (λ (x : ℕ). Turn (layersTried 1 x K) (layersTried 2 x K) (layersTried 3 x K) (t .0) (t .1) (t .2)) n (t .3),
+            ap (λ (l : List ℕ). spanOf (maskOf base l) + below (rowAt w o) first l)
+                (ap (λ (x : ℕ). comb x (t .0) (t .1) (t .2)) (sym n) ∙ t .4)
+                ∙ e,
+          )
+
+      go : (v < illegalCost) ⊎ (illegalCost ≤ v) → Hit
+      go (inl h) = let r = hit-z h in turn (r .0) (r .1) (r .2) (r .3)
+      go (inr h) = inl (omega (arith, h, top))
+
 -- ---- the law
 
 module _ (w : List ℕ) (o first k K pins starts high b : ℕ) (few : k ≤ 3) (some : 1 ≤ K) (deep : K ≤ 8) (mask : LayerMask K pins) (ends : PinEnds K pins starts high)
@@ -218,30 +253,4 @@ module _ (w : List ℕ) (o first k K pins starts high b : ℕ) (few : k ≤ 3) (
           (t .0, t .1, c, omega (arith, price (t .0) c, le, t .3, x, y, low-z (t .0) (t .1) c))
 
   pub around-least : LeastCost w o first k K base v
-  around-least = record {
-    low = λ a′ b′ c′ t.
-        low-z (comb k a′ b′ c′) (comb-length k a′ b′ c′ few)
-        (covers-comb 1 K k a′ b′ c′ (t .0, omega (arith, t .1, tried-le 1 k K some)) (t .2, omega (arith, t .3, tried-le 2 k K some))
-        (t .4, omega (arith, t .5, tried-le 3 k K some)));
-    hit = go (lt-or-ge v illegalCost);
-  }
-    where
-      Hit : Type 0
-      Hit = (v ≡ illegalCost) ⊎ ((a′ : ℕ) × (b′ : ℕ) × (c′ : ℕ) × Turn (layersTried 1 k K) (layersTried 2 k K) (layersTried 3 k K) a′ b′ c′ × (combinationCost w o first k base a′ b′ c′ ≡ v))
-
-      turn : (z : List ℕ) → length z ≡ k → Covers 1 K z → spanOf (maskOf base z) + below (rowAt w o) first z ≡ v → Hit
-      turn z n c e =
-          let t = choice-turn K z some (omega (arith, n)) c in
-          inr (
-            t .0,
-            t .1,
-            t .2,
-            subst (λ (x : ℕ). Turn (layersTried 1 x K) (layersTried 2 x K) (layersTried 3 x K) (t .0) (t .1) (t .2)) n (t .3),
-            ap (λ (l : List ℕ). spanOf (maskOf base l) + below (rowAt w o) first l)
-                (ap (λ (x : ℕ). comb x (t .0) (t .1) (t .2)) (sym n) ∙ t .4)
-                ∙ e,
-          )
-
-      go : (v < illegalCost) ⊎ (illegalCost ≤ v) → Hit
-      go (inl h) = let r = hit-z h in turn (r .0) (r .1) (r .2) (r .3)
-      go (inr h) = inl (omega (arith, h, around-top w o first k K starts high b))
+  around-least = by-lists w o first k K base v few some low-z hit-z (around-top w o first k K starts high b)

@@ -1,6 +1,7 @@
 mod Runs
 mod Around
 mod Swept
+mod Joined
 mod Root
 mod Steps
 mod Tiles

@@ -1,6 +1,6 @@
 -- The loops that fill eight numbers, one number at a time.
 -- Assumes nothing.
-use mathlib.Core.Path.{_≡_, refl, sym, ap, _∙_, subst}
+use mathlib.Core.Path.{_≡_, refl, sym, ap, ap₂, _∙_, subst}
 use mathlib.Core.List.{List}
 use mathlib.Core.Bool.{Bool, true, false, cond}
 use mathlib.Core.Logic.{_⊎_, inl, inr, ⊎-elim, _≢_}
@@ -13,12 +13,13 @@ use lib.Seq.{getD-set-same, getD-set-other}
 use Rattle.model.specs.Lists.{upFrom}
 use Rattle.theory.specs.congestion.Sums.{lt-or-ge}
 use Rattle.theory.specs.engine.Interval.{leastIn, least-in-top}
-use Rattle.costs.specs.Mask.{has, top, bottom, no-layer, Ends, ends-of}
+use Rattle.costs.specs.Mask.{has, withLayer, spanOf, top, bottom, no-layer, Ends, ends-of}
 use Rattle.costs.specs.Rows.{illegalCost, Eight, LayerMask}
 use Rattle.costs.specs.Intervals.{leastOver, within, branchSum, interval, leastEnd, around, Taken, PinEnds}
-use Rattle.costs.specs.Sweeps.{sweptUp, sweptDown}
+use Rattle.costs.specs.Sweeps.{sweptUp, sweptDown, swept, met, thirdMet, Small}
 use Rattle.costs.proofs.Runs.{run-more, run-same}
 use Rattle.costs.proofs.Around.{over-top, sum-top}
+use Rattle.costs.proofs.Swept.{swept-top, one-span}
 
 pub long-set : (v : List ℕ) (b x : ℕ) → length v ≡ 8 → length (set v b x) ≡ 8
 long-set v b x n = length-set v b x ∙ n
@@ -176,6 +177,10 @@ module _ (w : List ℕ) (o first k K starts high : ℕ) where
           let r = run-more illegalCost f 0 s in
           rw i (t .taken b z q ∙ omega (arith, e, u, r, ap f n))
 
+-- all starts are taken
+pub around-end : (w : List ℕ) (o first k starts s high : ℕ) (c : List ℕ) → starts ≡ s → Eight c (around w o first k 8 s high) 0 8 → Eight c (around w o first k 8 starts high) 0 8
+around-end w o first k starts s high c e p = subst (λ (x : ℕ). Eight c (around w o first k 8 x high) 0 8) (sym e) p
+
 -- ---- the sweeps
 
 pub swept-up-more : (g : ℕ → ℕ) (l x : ℕ) → x ≡ sweptUp g l → min (min (x + 1) (g l)) illegalCost ≡ sweptUp g (suc l)
@@ -197,14 +202,81 @@ swept-down-top g K (suc n) h k = omega (arith, h (K - suc n) (omega arith))
 pub down-all : (v₀ v : List ℕ) (f : ℕ → ℕ) (K b : ℕ) → b ≡ 0 → FilledDown v₀ v f K b → Eight v f 0 K
 down-all v₀ v f K b e p = record { long = p .long; at = λ t q r. p .done t (omega arith) r }
 
+-- costs that agree below K are swept alike
+module _ (g h : ℕ → ℕ) (K : ℕ) (e : (t : ℕ) → t < K → g t ≡ h t) where
+  up-same : (n : ℕ) → n ≤ K → sweptUp g n ≡ sweptUp h n
+  up-same zero k = refl
+  up-same (suc n) k = omega (arith, up-same n (omega arith), e n (omega arith))
+
+  down-same : (n : ℕ) → n ≤ K → sweptDown g K n ≡ sweptDown h K n
+  down-same zero k = refl
+  down-same (suc n) k = omega (arith, down-same n (omega arith), e (K - suc n) (omega arith))
+
+pub swept-same : (g h : ℕ → ℕ) (K l : ℕ) → ((t : ℕ) → t < K → g t ≡ h t) → swept g K l ≡ swept h K l
+unfolding swept
+swept-same g h K l e = down-same (λ t. sweptUp g (suc t)) (λ t. sweptUp h (suc t)) K (λ t q. up-same g h K e (suc t) q) (K - l) (omega arith)
+
 -- the two sweeps together
-pub swept-both : (g : ℕ → ℕ) (K : ℕ) (c c′ : List ℕ) → Eight c (λ l. sweptUp g (suc l)) 0 K → Eight c′ (λ l. sweptDown (λ t. getD c t 0) K (K - l)) 0 K
-    → Eight c′ (λ l. sweptDown (λ t. sweptUp g (suc t)) K (K - l)) 0 K
-swept-both g K c c′ p q = record { long = q .long; at = λ l a b. q .at l a b ∙ same (K - l) (omega arith) }
+pub swept-both : (g : ℕ → ℕ) (K : ℕ) (c c′ : List ℕ) → Eight c (λ l. sweptUp g (suc l)) 0 K → Eight c′ (λ l. sweptDown (λ t. getD c t 0) K (K - l)) 0 K → Eight c′ (swept g K) 0 K
+unfolding swept
+swept-both g K c c′ p q = record {
+  long = q .long;
+  at = λ l a b. q .at l a b ∙ down-same (λ t. getD c t 0) (λ t. sweptUp g (suc t)) K (λ t k. p .at t (omega arith) k) (K - l) (omega arith);
+}
+
+-- ---- branches that meet
+
+pub small-swept : (g : ℕ → ℕ) (r : List ℕ) → Eight r (swept g 8) 0 8 → Small r
+small-swept g r p l h = omega (arith, p .at l (omega arith) h, swept-top g 8 l h)
+
+pub small-met : (x y : ℕ → ℕ) (r : List ℕ) → Eight r (met x y 8) 0 8 → Small r
+unfolding met
+small-met x y r p = small-swept (λ t. x t + y t) r p
+
+-- the costs s, swept as code has them
+swept-list : (f : ℕ → ℕ) (s r : List ℕ) → Eight s f 0 8 → Eight r (swept (λ u. getD s (0 + u) 0) 8) 0 8 → Eight r (swept f 8) 0 8
+swept-list f s r p q = record {
+  long = q .long;
+  at = λ l a b. q .at l a b ∙ swept-same (λ u. getD s (0 + u) 0) f 8 l (λ t k. let i : 0 + t ≡ t = omega arith in ap (λ (x : ℕ). getD s x 0) i ∙ p .at t (omega arith) k);
+}
+
+pub met-list : (a b s r : List ℕ) → Eight s (λ l. getD a l 0 + getD b l 0) 0 8 → Eight r (swept (λ u. getD s (0 + u) 0) 8) 0 8
+    → Eight r (met (λ l. getD a l 0) (λ l. getD b l 0) 8) 0 8
+unfolding met
+met-list a b s r = swept-list (λ l. getD a l 0 + getD b l 0) s r
+
+met-same : (x x′ y y′ : ℕ → ℕ) (l : ℕ) → ((t : ℕ) → t < 8 → x t ≡ x′ t) → ((t : ℕ) → t < 8 → y t ≡ y′ t) → met x y 8 l ≡ met x′ y′ 8 l
+unfolding met
+met-same x x′ y y′ l e e′ = swept-same (λ t. x t + y t) (λ t. x′ t + y′ t) 8 l (λ t k. omega (arith, e t k, e′ t k))
+
+pub pair-list : (x y : ℕ → ℕ) (a b r : List ℕ) → Eight a x 0 8 → Eight b y 0 8 → Eight r (met (λ l. getD a l 0) (λ l. getD b l 0) 8) 0 8 → Eight r (met x y 8) 0 8
+pair-list x y a b r p q m = record {
+  long = m .long;
+  at = λ l j k. m .at l j k ∙ met-same (λ t. getD a t 0) x (λ t. getD b t 0) y l (λ t h. p .at t (omega arith) h) (λ t h. q .at t (omega arith) h);
+}
+
+pub triple-list : (x y z : ℕ → ℕ) (a b d yz xz xy s₁ s₂ s₃ r : List ℕ) → Eight a x 0 8 → Eight b y 0 8 → Eight d z 0 8 → Eight yz (met y z 8) 0 8 → Eight xz (met x z 8) 0 8
+    → Eight xy (met x y 8) 0 8 → Eight s₁ (λ l. getD a l 0 + getD yz l 0) 0 8 → Eight s₂ (λ l. min (getD s₁ l 0) (getD b l 0 + getD xz l 0)) 0 8
+    → Eight s₃ (λ l. min (getD s₂ l 0) (getD d l 0 + getD xy l 0)) 0 8 → Eight r (swept (λ u. getD s₃ (0 + u) 0) 8) 0 8 → Eight r (thirdMet x y z 8) 0 8
+unfolding thirdMet
+triple-list x y z a b d yz xz xy s₁ s₂ s₃ r pa pb pd pyz pxz pxy p₁ p₂ p₃ =
+    swept-list (λ t. min (min (x t + met y z 8 t) (y t + met x z 8 t)) (z t + met x y 8 t)) s₃ r
+    (record {
+      long = p₃ .long;
+      at = λ l j k.
+          p₃ .at l j k
+          ∙ ap₂ (λ (u v : ℕ). min u v)
+          (p₂ .at l j k ∙ ap₂ (λ (u v : ℕ). min u v) (p₁ .at l j k ∙ plus (pa .at l j k) (pyz .at l j k)) (plus (pb .at l j k) (pxz .at l j k)))
+          (plus (pd .at l j k) (pxy .at l j k));
+    })
   where
-    same : (n : ℕ) → n ≤ K → sweptDown (λ t. getD c t 0) K n ≡ sweptDown (λ t. sweptUp g (suc t)) K n
-    same zero h = refl
-    same (suc n) h = omega (arith, same n (omega arith), p .at (K - suc n) (omega arith) (omega arith))
+    plus : {u u′ v v′ : ℕ} → u ≡ u′ → v ≡ v′ → u + v ≡ u′ + v′
+    plus e e′ = omega arith
+
+-- ---- a tile with no pin and no branch
+
+pub leaf-none : (pins : ℕ) (c : List ℕ) → pins ≡ 0 → length c ≡ 8 → ((b : ℕ) → b < 8 → getD c b 0 ≡ 0) → Eight c (λ l. spanOf (withLayer pins (suc l))) 0 8
+leaf-none pins c e n h = record { long = n; at = λ b p q. rw e (h b q ∙ sym (one-span (suc b) (omega arith, omega arith))) }
 
 -- ---- the ends that the intervals of a tile can have
 

@@ -12,7 +12,7 @@ use Rattle.theory.specs.engine.Span.{span, covers-cons}
 use Rattle.costs.specs.Mask.{withLayer, spanOf, set-none, mask-price}
 use Rattle.costs.specs.Rows.{illegalCost, combinationCost, LeastCost}
 use Rattle.costs.specs.Combinations.{covers-none}
-use Rattle.costs.specs.Sweeps.{sweptUp, sweptDown}
+use Rattle.costs.specs.Sweeps.{sweptUp, sweptDown, swept}
 
 -- ---- upwards
 
@@ -87,8 +87,8 @@ module _ (g : ℕ → ℕ) (K l : ℕ) (inside : l < K) where
   up-here : (t u : ℕ) → u ≤ t → up t ≤ g u + (t - u)
   up-here t u p = let e : suc t - 1 - u ≡ t - u = omega arith in subst (λ (x : ℕ). up t ≤ g u + x) e (up-low g (suc t) u (omega arith))
 
-  swept-low : (t : ℕ) → t < K → v ≤ g t + ((t - l) + (l - t))
-  swept-low t q = go (lt-or-ge l t)
+  both-low : (t : ℕ) → t < K → v ≤ g t + ((t - l) + (l - t))
+  both-low t q = go (lt-or-ge l t)
     where
       join : (x y a b : ℕ) → x ≤ y + b → y ≤ g t + a → a + b ≤ (t - l) + (l - t) → x ≤ g t + ((t - l) + (l - t))
       join x y a b h k j = omega arith
@@ -97,11 +97,11 @@ module _ (g : ℕ → ℕ) (K l : ℕ) (inside : l < K) where
       go (inl p) = join v (up t) (t - t) (t - l) (from-up t (omega arith) q) (up-here t t (omega arith)) (omega arith)
       go (inr p) = join v (up l) (l - t) (l - l) (from-up l (omega arith) inside) (up-here l t p) (omega arith)
 
-  swept-top : v ≤ illegalCost
-  swept-top = let h = from-up l (omega arith) inside in let k = up-top g (suc l) in omega (arith, h, k)
+  both-top : v ≤ illegalCost
+  both-top = let h = from-up l (omega arith) inside in let k = up-top g (suc l) in omega (arith, h, k)
 
-  swept-hit : v < illegalCost → (t : ℕ) × (t < K) × (g t + ((t - l) + (l - t)) ≡ v)
-  swept-hit h = go (subst (λ (x : ℕ). (v ≡ illegalCost) ⊎ ((t : ℕ) × (x ≤ t) × (t < K) × (v ≡ up t + (t - x)))) back (down-hit up K (λ x y. up-top g (suc x)) (K - l) (omega arith)))
+  both-hit : v < illegalCost → (t : ℕ) × (t < K) × (g t + ((t - l) + (l - t)) ≡ v)
+  both-hit h = go (subst (λ (x : ℕ). (v ≡ illegalCost) ⊎ ((t : ℕ) × (x ≤ t) × (t < K) × (v ≡ up t + (t - x)))) back (down-hit up K (λ x y. up-top g (suc x)) (K - l) (omega arith)))
     where
       Hit : Type 0
       Hit = (t : ℕ) × (t < K) × (g t + ((t - l) + (l - t)) ≡ v)
@@ -113,13 +113,31 @@ module _ (g : ℕ → ℕ) (K l : ℕ) (inside : l < K) where
       last t p q e (inl f) = absurd (omega (arith, e, f, h))
       last t p q e (inr (t′, p′, f)) =
           let i : suc t - 1 - t′ ≡ t - t′ = omega arith in
-          (t′, omega arith, join v (up t) t t′ (g t′) p (omega arith) e (f ∙ ap (λ (x : ℕ). g t′ + x) i) (swept-low t′ (omega arith)))
+          (t′, omega arith, join v (up t) t t′ (g t′) p (omega arith) e (f ∙ ap (λ (x : ℕ). g t′ + x) i) (both-low t′ (omega arith)))
 
       go : (v ≡ illegalCost) ⊎ ((t : ℕ) × (l ≤ t) × (t < K) × (v ≡ up t + (t - l))) → Hit
       go (inl e) = absurd (omega (arith, e, h))
       go (inr (t, p, q, e)) = last t p q e (up-hit g (suc t))
 
--- the vias between two layers
+-- as the contracts name it
+module _ (g : ℕ → ℕ) (K l : ℕ) (inside : l < K) where
+  pub swept-low : (t : ℕ) → t < K → swept g K l ≤ g t + ((t - l) + (l - t))
+  unfolding swept
+  swept-low = both-low g K l inside
+
+  pub swept-top : swept g K l ≤ illegalCost
+  unfolding swept
+  swept-top = both-top g K l inside
+
+  pub swept-hit : swept g K l < illegalCost → (t : ℕ) × (t < K) × (g t + ((t - l) + (l - t)) ≡ swept g K l)
+  unfolding swept
+  swept-hit = both-hit g K l inside
+
+-- the vias of one layer, and between two
+pub one-span : (x : ℕ) → (1 ≤ x) × (x ≤ 8) → spanOf (withLayer 0 x) ≡ 0
+unfolding span
+one-span x p = omega (arith, mask-price 0 [] (x ∷ []) (covers-cons 1 8 x [] (p .0) (p .1) (covers-none 1 8)) set-none)
+
 two-span : (x a : ℕ) → (1 ≤ x) × (x ≤ 8) → (1 ≤ a) × (a ≤ 8) → spanOf (withLayer (withLayer 0 x) a) ≡ (a - x) + (x - a)
 unfolding span
 two-span x a p q =
@@ -133,14 +151,14 @@ module _ (w : List ℕ) (o first K l : ℕ) (deep : K ≤ 8) (inside : l < K) wh
   cost-is : (a b c : ℕ) → 1 ≤ a → a ≤ K → combinationCost w o first 1 (withLayer 0 (suc l)) a b c ≡ g (a - 1) + ((a - 1 - l) + (l - (a - 1)))
   cost-is a b c p q = omega (arith, two-span (suc l) a (omega arith, omega arith) (p, omega arith))
 
-  pub swept-least : LeastCost w o first 1 K (withLayer 0 (suc l)) (v g K l inside)
+  pub swept-least : LeastCost w o first 1 K (withLayer 0 (suc l)) (swept g K l)
   swept-least = record {
     low = λ a b c t. omega (arith, cost-is a b c (t .0) (t .1), swept-low g K l inside (a - 1) (omega (arith, t .0, t .1)));
-    hit = go (lt-or-ge (v g K l inside) illegalCost);
+    hit = go (lt-or-ge (swept g K l) illegalCost);
   }
     where
-      go : (v g K l inside < illegalCost) ⊎ (illegalCost ≤ v g K l inside)
-          → (v g K l inside ≡ illegalCost) ⊎ ((a : ℕ) × (b : ℕ) × (c : ℕ) × Turn K 1 1 a b c × (combinationCost w o first 1 (withLayer 0 (suc l)) a b c ≡ v g K l inside))
+      go : (swept g K l < illegalCost) ⊎ (illegalCost ≤ swept g K l)
+          → (swept g K l ≡ illegalCost) ⊎ ((a : ℕ) × (b : ℕ) × (c : ℕ) × Turn K 1 1 a b c × (combinationCost w o first 1 (withLayer 0 (suc l)) a b c ≡ swept g K l))
       go (inl h) =
           let r = swept-hit g K l inside h in
           let e : suc (r .0) - 1 ≡ r .0 = omega arith in

@@ -19,7 +19,7 @@ ghost use Rattle.theory.specs.engine.Interval.{leastIn};
 ghost use Rattle.costs.specs.Mask.{withLayer, spanOf, top, bottom};
 ghost use Rattle.costs.specs.Rows.{illegalCost, LeastCost, Eight, TileCosts, RowPut, RowWritten, firstIn, branchesIn, pinsIn, legalIn, rootBranches, LayerMask, Shape, RowsFrom};
 ghost use Rattle.costs.specs.Intervals.{within, interval, Taken, around, PinEnds};
-ghost use Rattle.costs.specs.Sweeps.{sweptUp, sweptDown};
+ghost use Rattle.costs.specs.Sweeps.{sweptUp, sweptDown, swept, Small, met, pairMet, tripleMet};
 
 // The cost of an illegal layer, above the cost of any net.
 pub const ILLEGAL: u32 = 536870912;
@@ -144,6 +144,27 @@ fn take_intervals(c: &mut [u32; 8], v: &[u32; 8], layers: usize, s: usize, high:
     }
 }
 
+// Takes the intervals that start at s, of a tile with k branches, into the costs c of those that start below s.
+fn take_start(
+    c: &mut [u32; 8],
+    w: &[u32],
+    o: usize,
+    first: usize,
+    k: usize,
+    layers: usize,
+    s: usize,
+    high: usize,
+)
+    requires { ⌜ (k ≤ 3) × (s < layers) × (layers ≤ 8) ⌝ }
+    requires { ⌜ (first ≤ 65536) × (o ≤ 16777216) ⌝ }
+    requires { do ⌜ o + 8 * (first + k) ≤ (← ⟦w.len()⟧) ⌝ }
+    requires { ⌜ Eight (now c) (around (now w) o first k layers s high) 0 layers ⌝ }
+    ensures { λ _. ⌜ Eight (now (c .exit)) (around (now (w .entry)) o first k layers (s + 1) high) 0 layers ⌝ }
+{
+    let v = intervals_from(w, o, first, k, layers, s);
+    take_intervals(c, &v, layers, s, high);
+}
+
 // The costs of a tile with k branches over the intervals that start below `starts` and end at `high` or above.
 fn interval_costs(
     w: &[u32],
@@ -161,13 +182,59 @@ fn interval_costs(
 {
     let mut c = [ILLEGAL; 8];
     for s in 0..starts {
-        let v = intervals_from(w, o, first, k, layers, s);
-        take_intervals(&mut c, &v, layers, s, high);
+        take_start(&mut c, w, o, first, k, layers, s, high);
     }
     c
 }
 
-// ---- a tile with one branch and no pin, in two sweeps
+// The same on eight layers. Each start is a number of its own, so that what is done for it is known before the program runs.
+fn eight_intervals(
+    w: &[u32],
+    o: usize,
+    first: usize,
+    k: usize,
+    starts: usize,
+    high: usize,
+) -> [u32; 8]
+    requires { ⌜ (k ≤ 3) × (1 ≤ starts) × (starts ≤ 8) ⌝ }
+    requires { ⌜ (first ≤ 65536) × (o ≤ 16777216) ⌝ }
+    requires { do ⌜ o + 8 * (first + k) ≤ (← ⟦w.len()⟧) ⌝ }
+    ensures { λ r. ⌜ Eight r (around (now (w .entry)) o first k 8 starts high) 0 8 ⌝ }
+{
+    let mut c = [ILLEGAL; 8];
+    take_start(&mut c, w, o, first, k, 8, 0, high);
+    if starts == 1 {
+        return c;
+    }
+    take_start(&mut c, w, o, first, k, 8, 1, high);
+    if starts == 2 {
+        return c;
+    }
+    take_start(&mut c, w, o, first, k, 8, 2, high);
+    if starts == 3 {
+        return c;
+    }
+    take_start(&mut c, w, o, first, k, 8, 3, high);
+    if starts == 4 {
+        return c;
+    }
+    take_start(&mut c, w, o, first, k, 8, 4, high);
+    if starts == 5 {
+        return c;
+    }
+    take_start(&mut c, w, o, first, k, 8, 5, high);
+    if starts == 6 {
+        return c;
+    }
+    take_start(&mut c, w, o, first, k, 8, 6, high);
+    if starts == 7 {
+        return c;
+    }
+    take_start(&mut c, w, o, first, k, 8, 7, high);
+    c
+}
+
+// ---- a tile with no pin, in sweeps
 
 fn sweep_up(w: &[u32], at: usize, layers: usize) -> [u32; 8]
     requires { ⌜ layers ≤ 8 ⌝ }
@@ -199,29 +266,97 @@ fn sweep_down(c: &mut [u32; 8], layers: usize)
     }
 }
 
-// ---- the costs of a tile
-
-// A tile without branches: its vias.
-fn leaf_costs(layers: usize, pins: u32) -> [u32; 8]
-    requires { ⌜ layers ≤ 8 ⌝ }
-    requires { ⌜ pins < 256 ⌝ }
-    ensures { λ r. ⌜ Eight r (λ l. spanOf (withLayer pins (suc l))) 0 layers ⌝ }
-{
-    let mut c = [0u32; 8];
-    for l in 0..layers {
-        c[l] = span(with_layer(pins, l + 1));
-    }
-    c
-}
-
+// The costs of what hangs at one layer, whose costs by layer stand from `at` on: the least of a layer's cost and the vias to that layer.
 fn sweep_costs(w: &[u32], at: usize, layers: usize) -> [u32; 8]
     requires { ⌜ layers ≤ 8 ⌝ }
     requires { ⌜ at ≤ 33554432 ⌝ }
     requires { do ⌜ at + layers ≤ (← ⟦w.len()⟧) ⌝ }
-    ensures { λ r. ⌜ Eight r (λ l. sweptDown (λ t. sweptUp (λ u. getD (now (w .entry)) (at + u) 0) (suc t)) layers (layers - l)) 0 layers ⌝ }
+    ensures { λ r. ⌜ Eight r (swept (λ u. getD (now (w .entry)) (at + u) 0) layers) 0 layers ⌝ }
 {
     let mut c = sweep_up(w, at, layers);
     sweep_down(&mut c, layers);
+    c
+}
+
+// The sum of two costs on each layer.
+fn sum_of(a: &[u32; 8], b: &[u32; 8]) -> [u32; 8]
+    requires { ⌜ Small (now a) ⌝ }
+    requires { ⌜ Small (now b) ⌝ }
+    ensures { λ r. ⌜ Eight r (λ l. getD (now (a .entry)) l 0 + getD (now (b .entry)) l 0) 0 8 ⌝ }
+{
+    let mut c = [0u32; 8];
+    for l in 0..8 {
+        c[l] = a[l] + b[l];
+    }
+    c
+}
+
+// The costs of two things that meet at a layer of their own.
+fn meet(a: &[u32; 8], b: &[u32; 8]) -> [u32; 8]
+    requires { ⌜ Small (now a) ⌝ }
+    requires { ⌜ Small (now b) ⌝ }
+    ensures { λ r. ⌜ Eight r (met (λ l. getD (now (a .entry)) l 0) (λ l. getD (now (b .entry)) l 0) 8) 0 8 ⌝ }
+{
+    let s = sum_of(a, b);
+    sweep_costs(&s, 0, 8)
+}
+
+// The less of the costs c and the sum of two costs, on each layer.
+fn least_sum(c: &[u32; 8], a: &[u32; 8], b: &[u32; 8]) -> [u32; 8]
+    requires { ⌜ Small (now a) ⌝ }
+    requires { ⌜ Small (now b) ⌝ }
+    ensures { λ r. ⌜ Eight r (λ l. min (getD (now (c .entry)) l 0) (getD (now (a .entry)) l 0 + getD (now (b .entry)) l 0)) 0 8 ⌝ }
+{
+    let mut d = [0u32; 8];
+    for l in 0..8 {
+        d[l] = least_of(c[l], a[l] + b[l]);
+    }
+    d
+}
+
+// Two branches and no pin: they meet.
+fn pair_costs(w: &[u32], at: usize) -> [u32; 8]
+    requires { ⌜ at ≤ 33554400 ⌝ }
+    requires { do ⌜ at + 16 ≤ (← ⟦w.len()⟧) ⌝ }
+    ensures { λ r. ⌜ Eight r (pairMet (λ u. getD (now (w .entry)) (at + u) 0) (λ u. getD (now (w .entry)) (at + 8 + u) 0) 8) 0 8 ⌝ }
+{
+    let a = sweep_costs(w, at, 8);
+    let b = sweep_costs(w, at + 8, 8);
+    meet(&a, &b)
+}
+
+// Three branches and no pin: two of them meet, whichever they are, and then the third meets them.
+fn triple_costs(w: &[u32], at: usize) -> [u32; 8]
+    requires { ⌜ at ≤ 33554400 ⌝ }
+    requires { do ⌜ at + 24 ≤ (← ⟦w.len()⟧) ⌝ }
+    ensures { λ r. ⌜ Eight r (tripleMet (λ u. getD (now (w .entry)) (at + u) 0) (λ u. getD (now (w .entry)) (at + 8 + u) 0) (λ u. getD (now (w .entry)) (at + 16 + u) 0) 8) 0 8 ⌝ }
+{
+    let x = sweep_costs(w, at, 8);
+    let y = sweep_costs(w, at + 8, 8);
+    let z = sweep_costs(w, at + 16, 8);
+    let yz = meet(&y, &z);
+    let c = sum_of(&x, &yz);
+    let xz = meet(&x, &z);
+    let d = least_sum(&c, &y, &xz);
+    let xy = meet(&x, &y);
+    let e = least_sum(&d, &z, &xy);
+    sweep_costs(&e, 0, 8)
+}
+
+// ---- the costs of a tile
+
+// A tile without branches: its vias.
+fn leaf_costs(pins: u32) -> [u32; 8]
+    requires { ⌜ pins < 256 ⌝ }
+    ensures { λ r. ⌜ Eight r (λ l. spanOf (withLayer pins (suc l))) 0 8 ⌝ }
+{
+    let mut c = [0u32; 8];
+    if pins == 0 {
+        return c;
+    }
+    for l in 0..8 {
+        c[l] = span(with_layer(pins, l + 1));
+    }
     c
 }
 
@@ -248,6 +383,33 @@ fn pin_ends(pins: u32, layers: usize) -> Bounds
     }
 }
 
+// A tile with k branches, one or more, on eight layers.
+fn eight_costs(w: &[u32], o: usize, first: usize, k: usize, pins: u32) -> [u32; 8]
+    requires { ⌜ (1 ≤ k) × (k ≤ 3) ⌝ }
+    requires { ⌜ LayerMask 8 pins ⌝ }
+    requires { ⌜ (first ≤ 65536) × (o ≤ 16777216) ⌝ }
+    requires { do ⌜ o + 8 * (first + k) ≤ (← ⟦w.len()⟧) ⌝ }
+    ensures { λ r. ⌜ TileCosts (now (w .entry)) o first k 8 pins r ⌝ }
+{
+    if pins == 0 {
+        if k == 1 {
+            return sweep_costs(w, o + 8 * first, 8);
+        }
+        if k == 2 {
+            return pair_costs(w, o + 8 * first);
+        }
+        return triple_costs(w, o + 8 * first);
+    }
+    let e = pin_ends(pins, 8);
+    if k == 1 {
+        return eight_intervals(w, o, first, 1, e.starts, e.high);
+    }
+    if k == 2 {
+        return eight_intervals(w, o, first, 2, e.starts, e.high);
+    }
+    eight_intervals(w, o, first, 3, e.starts, e.high)
+}
+
 // The least cost of a tile with k branches, which lead to the tiles from `first` on, for each layer above it.
 fn tile_costs(w: &[u32], o: usize, first: usize, k: usize, layers: usize, pins: u32) -> [u32; 8]
     requires { ⌜ k ≤ 3 ⌝ }
@@ -258,7 +420,10 @@ fn tile_costs(w: &[u32], o: usize, first: usize, k: usize, layers: usize, pins: 
     ensures { λ r. ⌜ TileCosts (now (w .entry)) o first k layers pins r ⌝ }
 {
     if k == 0 {
-        return leaf_costs(layers, pins);
+        return leaf_costs(pins);
+    }
+    if layers == 8 {
+        return eight_costs(w, o, first, k, pins);
     }
     if pins == 0 {
         if k == 1 {
@@ -283,13 +448,12 @@ fn legal_cost(c: &[u32; 8], legal: u32, l: usize) -> u32
 }
 
 // Writes a row from `at` on.
-fn put_row(w: &mut [u32], at: usize, c: &[u32; 8], layers: usize, legal: u32)
-    requires { ⌜ layers ≤ 8 ⌝ }
+fn put_row(w: &mut [u32], at: usize, c: &[u32; 8], legal: u32)
     requires { ⌜ at ≤ 33554432 ⌝ }
     requires { do ⌜ at + 8 ≤ (← ⟦w.len()⟧) ⌝ }
-    ensures { λ _. ⌜ RowPut (now (w .entry)) (now (w .exit)) (now (c .entry)) at layers legal ⌝ }
+    ensures { λ _. ⌜ RowPut (now (w .entry)) (now (w .exit)) (now (c .entry)) at 8 legal ⌝ }
 {
-    for l in 0..layers {
+    for l in 0..8 {
         w[at + l] = legal_cost(c, legal, l);
     }
 }
@@ -322,7 +486,7 @@ fn tile_row(w: &mut [u32], m: usize, n: usize, i: usize, layers: usize)
     let pins = at(w, m + i) as u32;
     let legal = at(w, 2 * m + i) as u32;
     let c = tile_costs(w, 4 * m, first, end - first, layers, pins);
-    put_row(w, 4 * m + 8 * i, &c, layers, legal);
+    put_row(w, 4 * m + 8 * i, &c, legal);
 }
 
 // Writes the cost rows of the tiles n - 1 down to 1: each is taken over the rows of its branches, which stand further on.

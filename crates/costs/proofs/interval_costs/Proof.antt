@@ -7,7 +7,7 @@ use borrow.Author.Needs.{needs}
 use lib.ListN.{getD-replicate}
 use Rattle.costs.specs.Rows.{illegalCost, Eight}
 use Rattle.costs.specs.Intervals.{around}
-use Rattle.costs.proofs.Steps.{around-none, around-more}
+use Rattle.costs.proofs.Steps.{around-none}
 use Rattle.costs.proofs.interval_costs.Statement.{statement}
 use Rattle.costs.proofs.interval_costs.Tie as tie
 
@@ -22,17 +22,11 @@ loop-holds c =
     let g = c .before .args in
     (omega arith, around-none (g .w .now) (g .o) (g .first) (g .k) (g .layers) (g .starts) (g .high) _ refl (λ b h. getD-replicate 8 b illegalCost 0 h) (omega arith))
 
-take-intervals-requires : tie.Need-take-intervals-requires Inv-loop μ-loop
-take-intervals-requires c κs = ((omega arith, omega arith), c .before .before .before .before .loop .inv .1 .long)
+take-start-requires : tie.Need-take-start-requires Inv-loop μ-loop
+take-start-requires c κs = ((omega arith, omega arith, omega arith), ((omega arith, omega arith), (omega arith, c .before .before .loop .inv .1)))
 
 loop-again : tie.Need-loop-again Inv-loop μ-loop
-loop-again c =
-    let g = c .before .before .before .before .before .before .before .args in
-    let p = c .before .before .before .before .before .loop in (
-      omega arith,
-      around-more (g .w .now) (g .o) (g .first) (g .k) (g .layers) (g .starts) (g .high) (p .c) (c .take-intervals .last .0) (c .before .before .before .intervals-from .result) (p .s) (p .inv .1)
-          (c .before .before .before .intervals-from .ensures) (c .take-intervals .ensures),
-    )
+loop-again c = (omega arith, c .take-start .ensures)
 
 returns : tie.Need-returns Inv-loop μ-loop
 returns c =
@@ -44,4 +38,4 @@ returns c =
 pub interval-costs-spec : {M : Type 1} → statement M
 interval-costs-spec =
     tie.close
-    (tie.spec Inv-loop μ-loop loop-holds (λ c κs. search needs) take-intervals-requires (λ c. search needs) (λ c. search needs) loop-again returns)
+    (tie.spec Inv-loop μ-loop loop-holds take-start-requires (λ c. search needs) (λ c. search needs) loop-again returns)

@@ -11,10 +11,10 @@ use Rattle.costs.proofs.put_row.Statement.{statement}
 use Rattle.costs.proofs.put_row.Tie as tie
 
 abbrev Inv-loop : tie.InvT-loop
-Inv-loop w₀ at c layers legal l₀ w l = (length w ≡ length w₀) × RowPut w₀ w c at l legal
+Inv-loop w₀ at c legal l₀ w l = (length w ≡ length w₀) × RowPut w₀ w c at l legal
 
 abbrev μ-loop : tie.MeasureT-loop
-μ-loop w₀ at c layers legal l₀ w l = layers - l
+μ-loop w₀ at c legal l₀ w l = 8 - l
 
 loop-again : tie.Need-loop-again Inv-loop μ-loop
 loop-again c =

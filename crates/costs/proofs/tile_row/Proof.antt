@@ -3,7 +3,7 @@
 use Prim.Native.Nat.{_-_}
 use native.Mathlib.Omega.{arith}
 use borrow.Author.Needs.{needs}
-use Rattle.costs.proofs.Written.{row-asks, tile-written}
+use Rattle.costs.proofs.Written.{put-all, row-asks, tile-written}
 use Rattle.costs.proofs.tile_row.Statement.{statement}
 use Rattle.costs.proofs.tile_row.Tie as tie
 
@@ -16,9 +16,11 @@ tile-costs-requires c κs =
 
 returns : tie.Need-returns
 returns c =
-    let g = c .before .before .before .before .before .before .before .before .before .before .before .before .before .before .before .before .args in
+    let s = c .before .before .before .before .before .before .before .before .before .before .before .before .before .before .before .before in
+    let g = s .args in
     tile-written (g .w .now) (c .before .before .put-row .last .0) (c .before .before .before .before .before .tile-costs .result) (g .m) (g .i) (g .layers) (c .before .before .before .before .before .before .before .before .before .before .before .before .before .at .result) (c .before .before .before .before .before .before .before .before .before .before .before .at2 .result) (c .before .before .before .before .before .before .before .before .before .at3 .result)
-    (c .before .before .before .before .before .before .before .at4 .result) (omega arith) (omega arith) (omega arith) (omega arith) (c .before .before .before .before .before .tile-costs .ensures) (c .before .before .put-row .ensures)
+    (c .before .before .before .before .before .before .before .at4 .result) (omega arith) (omega arith) (omega arith) (omega arith) (c .before .before .before .before .before .tile-costs .ensures)
+    (put-all _ _ _ _ (g .layers) 8 _ (s .pre .0 .deep) (c .before .before .put-row .ensures))
 
 pub tile-row-spec : {M : Type 1} → statement M
 tile-row-spec =
