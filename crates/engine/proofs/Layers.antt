@@ -2,7 +2,7 @@
 -- Assumes nothing.
 use mathlib.Core.Path.{_≡_, refl, sym, ap, _∙_, subst}
 use mathlib.Core.List.{List, [], _∷_, _++_}
-use mathlib.Core.Logic.{_⊎_, inl, inr, ⊎-elim}
+use mathlib.Core.Logic.{_⊎_, inl, inr, ⊎-elim, _≢_}
 use Prim.Native.Nat.{ℕ, zero, suc, _+_, _-_, _*_, _≤_, _<_}
 use native.Mathlib.Omega.{arith}
 use native.Mathlib.Numerals.{add-one}
@@ -10,7 +10,7 @@ use lib.ListN.{getD, length, take, drop, set, length-append}
 use lib.Seq.{sets, slice, length-sets, take-set-le, drop-set-lt, take-take, sets-eq, take-at, drop-at, length-take-le, getD-take, getD-drop}
 use Rattle.theory.specs.congestion.Sums.{lt-or-ge}
 use Rattle.theory.specs.engine.Branches.{below}
-use Rattle.theory.specs.engine.Loops.{comb, Turn, HasTurn, FirstTurn}
+use Rattle.theory.specs.engine.Loops.{comb, Turn, HasTurn, FirstTurn, passed-start}
 use Rattle.theory.specs.engine.Table.{Agree}
 use Rattle.costs.specs.Mask.{withLayer}
 use Rattle.costs.specs.Rows.{illegalCost, rowAt, combinationCost, layersTried, LeastCost, firstIn, branchesIn, pinsIn, rootBranches, Shape, RowsFrom}
@@ -40,6 +40,27 @@ attained-of w o first k K base v n₁ n₂ n₃ e₁ e₂ e₃ t = rw (e₁, e�
 pub first-combination : (w : List ℕ) (o first k K base v n₁ n₂ n₃ a b c : ℕ) → n₁ ≡ layersTried 1 k K → n₂ ≡ layersTried 2 k K → n₃ ≡ layersTried 3 k K
     → FirstTurn n₁ n₂ n₃ (combinationCost w o first k base) v a b c → FirstCombination w o first k K base v a b c
 first-combination w o first k K base v n₁ n₂ n₃ a b c e₁ e₂ e₃ t = rw (← e₁, ← e₂, ← e₃) t
+
+-- with the numbers of branches and layers under other names
+pub attained-at : (w : List ℕ) (o first k k′ K K′ base v : ℕ) → k ≡ k′ → K ≡ K′ → Attained w o first k K base v → Attained w o first k′ K′ base v
+attained-at w o first k k′ K K′ base v e i t = rw (← e, ← i) t
+
+pub combination-at : (w : List ℕ) (o first k k′ K K′ base v a b c : ℕ) → k ≡ k′ → K ≡ K′ → FirstCombination w o first k′ K′ base v a b c
+    → FirstCombination w o first k K base v a b c
+combination-at w o first k k′ K K′ base v a b c e i t = rw (e, i) t
+
+-- a tile without branches has its combination: it is the empty one
+pub none-written : (w : List ℕ) (m first k K base v : ℕ) → k ≡ 0 → Attained w (4 * m) first k K base v → FirstWritten w w m first k K base v
+none-written w m first k K base v e t = rw e (go (attained-at w (4 * m) first k 0 K K base v e refl t))
+  where
+    go : Attained w (4 * m) first 0 K base v → FirstWritten w w m first 0 K base v
+    go t = record {
+      a = 1;
+      b = 1;
+      c = 1;
+      combination = record { turn = omega arith; costs = t .costs; none = passed-start 1 1 1 (λ a b c. combinationCost w (4 * m) first 0 base a b c ≢ v) };
+      wrote = refl;
+    }
 
 -- a least below `illegalCost` is the cost of a combination
 pub least-attained : (w : List ℕ) (o first k K base v : ℕ) → LeastCost w o first k K base v → v < illegalCost → Attained w o first k K base v

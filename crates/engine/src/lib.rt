@@ -4,14 +4,14 @@
 ghost use mathlib.Core.Path.{_≡_};
 ghost use mathlib.Core.List.{List};
 ghost use Prim.Native.Nat.{ℕ, _+_, _-_, _*_, _<_, _≤_};
-ghost use lib.Dec.{eqb};
+ghost use lib.Dec.{eqb, ltb};
 ghost use lib.ListN.{getD};
 ghost use lib.Seq.{sets};
 ghost use Rattle.model.specs.Job.{Job, Net};
 ghost use Rattle.theory.specs.engine.Loops.{comb, HasTurn, FirstTurn};
 ghost use Rattle.costs.specs.Mask.{spanOf};
 ghost use Rattle.costs.specs.Rows.{illegalCost, combinationCost, layersTried, Shape, RowsFrom};
-ghost use Rattle.engine.specs.Layers.{branchCost, branchMask, Attained, FirstWritten, RootLeast, RootReady, RootChosen, TileReady, TileChosen, ChosenUpTo};
+ghost use Rattle.engine.specs.Layers.{branchCost, branchMask, Attained, FirstCombination, FirstWritten, RootLeast, RootReady, RootChosen, TileReady, TileChosen, ChosenUpTo};
 ghost use Rattle.engine.specs.Net.{Holds, HoldsNet, Placed};
 
 // ---- combinations: a layer for each of a tile's k branches, which lead to the tiles from `first` on. The cost rows stand from o on. Loops count
@@ -54,6 +54,17 @@ fn reaches(goal: u32, cost: u32, mask: u32) -> bool
     costs::span(mask) == goal - cost
 }
 
+// The cost and the vias of the set are over `goal`: so is every combination that adds to them.
+fn exceeds(goal: u32, cost: u32, mask: u32) -> bool
+    requires { ⌜ mask < 256 ⌝ }
+    ensures { λ r. ⌜ r ≡ ltb goal (spanOf mask + cost) ⌝ }
+{
+    if goal < cost {
+        return true;
+    }
+    goal - cost < costs::span(mask)
+}
+
 struct Combination {
     a: usize,
     b: usize,
@@ -61,7 +72,7 @@ struct Combination {
 }
 
 // "the first combination, in rising order, that reaches this least cost": the loops are left at the first that costs `goal`. What costs more
-// already with its first branches is passed over.
+// already with its first branches and their vias is passed over.
 fn first_combination(
     w: &[u32],
     o: usize,
@@ -86,16 +97,16 @@ fn first_combination(
     let mut z = 1;
     'search: for a in 0..n1 {
         let p = branch_cost(w, o, first, k, 0, a);
-        if goal < p {
+        let m1 = branch_mask(base, k, 0, a);
+        if exceeds(goal, p, m1) {
             continue;
         }
-        let m1 = branch_mask(base, k, 0, a);
         for b in 0..n2 {
             let q = branch_cost(w, o, first, k, 1, b);
-            if goal - p < q {
+            let m2 = branch_mask(m1, k, 1, b);
+            if exceeds(goal - p, q, m2) {
                 continue;
             }
-            let m2 = branch_mask(m1, k, 1, b);
             for c in 0..n3 {
                 let r = branch_cost(w, o, first, k, 2, c);
                 let m3 = branch_mask(m2, k, 2, c);
@@ -121,6 +132,63 @@ fn layers_tried(j: usize, k: usize, layers: usize) -> usize
         return layers;
     }
     1
+}
+
+// The first combination of k branches that costs `goal`.
+fn combination_of(
+    w: &[u32],
+    o: usize,
+    first: usize,
+    k: usize,
+    layers: usize,
+    base: u32,
+    goal: u32,
+) -> Combination
+    requires { ⌜ k ≤ 3 ⌝ }
+    requires { ⌜ base < 256 ⌝ }
+    requires { ⌜ (1 ≤ layers) × (layers ≤ 8) ⌝ }
+    requires { ⌜ (first ≤ 65536) × (o ≤ 16777216) ⌝ }
+    requires { do ⌜ o + 8 * (first + k) ≤ (← ⟦w.len()⟧) ⌝ }
+    requires { ⌜ Attained (now w) o first k layers base goal ⌝ }
+    ensures { λ r. ⌜ FirstCombination (now (w .entry)) o first k layers base goal (r .a) (r .b) (r .c) ⌝ }
+{
+    let n1 = layers_tried(1, k, layers);
+    let n2 = layers_tried(2, k, layers);
+    let n3 = layers_tried(3, k, layers);
+    first_combination(w, o, first, k, base, n1, n2, n3, goal)
+}
+
+// The same. On all eight layers the numbers of branches and layers are constants, so that loops without a branch fall away and the others have a
+// known length.
+fn least_combination(
+    w: &[u32],
+    o: usize,
+    first: usize,
+    k: usize,
+    layers: usize,
+    base: u32,
+    goal: u32,
+) -> Combination
+    requires { ⌜ k ≤ 3 ⌝ }
+    requires { ⌜ base < 256 ⌝ }
+    requires { ⌜ (1 ≤ layers) × (layers ≤ 8) ⌝ }
+    requires { ⌜ (first ≤ 65536) × (o ≤ 16777216) ⌝ }
+    requires { do ⌜ o + 8 * (first + k) ≤ (← ⟦w.len()⟧) ⌝ }
+    requires { ⌜ Attained (now w) o first k layers base goal ⌝ }
+    ensures { λ r. ⌜ FirstCombination (now (w .entry)) o first k layers base goal (r .a) (r .b) (r .c) ⌝ }
+{
+    if layers == 8 {
+        if k == 1 {
+            return combination_of(w, o, first, 1, 8, base, goal);
+        }
+        if k == 2 {
+            return combination_of(w, o, first, 2, 8, base, goal);
+        }
+        if k == 3 {
+            return combination_of(w, o, first, 3, 8, base, goal);
+        }
+    }
+    combination_of(w, o, first, k, layers, base, goal)
 }
 
 // ---- the choice of layers
@@ -165,10 +233,7 @@ fn choose_branches(
     requires { ⌜ Attained (now w) (4 * m) first k layers base goal ⌝ }
     ensures { λ _. ⌜ FirstWritten (now (w .entry)) (now (w .exit)) m first k layers base goal ⌝ }
 {
-    let n1 = layers_tried(1, k, layers);
-    let n2 = layers_tried(2, k, layers);
-    let n3 = layers_tried(3, k, layers);
-    let t = first_combination(w, 4 * m, first, k, base, n1, n2, n3, goal);
+    let t = least_combination(w, 4 * m, first, k, layers, base, goal);
     put_layers(w, 3 * m + first, k, t.a, t.b, t.c);
 }
 
@@ -181,6 +246,9 @@ fn choose_below(w: &mut [u32], m: usize, i: usize, layers: usize)
 {
     let first = costs::at(w, i - 1);
     let end = costs::at(w, i);
+    if first == end {
+        return;
+    }
     let l = costs::at(w, 3 * m + i);
     let goal = costs::at(w, 4 * m + 8 * i + (l - 1)) as u32;
     let base = costs::with_layer(costs::at(w, m + i) as u32, l);

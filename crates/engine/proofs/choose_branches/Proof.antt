@@ -1,20 +1,28 @@
 -- `choose_branches` meets its contract.
 -- Assumes nothing.
-use Prim.Native.Nat.{_*_}
-use Rattle.engine.proofs.Layers.{attained-of, first-combination}
 use native.Mathlib.Omega.{arith}
+use Rattle.costs.specs.Kept.{tried-le}
 use borrow.Author.Needs.{needs}
 use Rattle.engine.proofs.choose_branches.Statement.{statement}
 use Rattle.engine.proofs.choose_branches.Tie as tie
 
+returns : tie.Need-returns
+returns c =
+    let t = c .before .before .before .before .least-combination in
+    record { a = t .result .a; b = t .result .b; c = t .result .c; combination = t .ensures; wrote = c .before .before .put-layers .ensures }
+
+least-combination-requires : tie.Need-least-combination-requires
+least-combination-requires c κs =
+    (omega arith, (omega arith, ((omega arith, omega arith), ((omega arith, omega arith), (omega arith, c .before .before .pre .1 .1 .1 .1 .1)))))
+
+put-layers-requires : tie.Need-put-layers-requires
+put-layers-requires c κs =
+    let s = c .before .before .before .before in
+    let g = s .args in
+    let t = c .before .least-combination .ensures .turn in
+    let some = s .pre .1 .1 .0 .0 in
+    (omega arith, ((omega (arith, t .1, tried-le 1 (g .k) (g .layers) some), omega (arith, t .3, tried-le 2 (g .k) (g .layers) some), omega (arith, t .5, tried-le 3 (g .k) (g .layers) some)), (omega arith, omega arith)))
+
 pub choose-branches-spec : {M : Type 1} → statement M
 choose-branches-spec =
-    tie.close
-    (tie.spec
-    (λ c κs. search needs) (λ c κs. search needs) (λ c κs. search needs) (λ c. search needs)
-    (λ c κs. let g = c .before .before .before .before .before .args in
-    (omega arith, (omega arith, ((omega arith, omega arith, omega arith), ((omega arith, omega arith), (omega arith, attained-of (g .w .now) (4 * g .m) (g .first) (g .k) (g .layers) (g .base) (g .goal) (c .before .before .before .layers-tried .result) (c .before .before .layers-tried2 .result) (c .before .layers-tried3 .result) (omega arith) (omega arith) (omega arith) (c .before .before .before .before .before .pre .1 .1 .1 .1 .1)))))))
-    (λ c. search needs) (λ c. search needs) (λ c κs. search needs) (λ c. search needs)
-    (λ c. let g = c .before .before .before .before .before .before .before .before .before .before .args in
-    let f = c .before .before .before .before .first-combination in
-    record { a = f .result .a; b = f .result .b; c = f .result .c; combination = first-combination (g .w .now) (4 * g .m) (g .first) (g .k) (g .layers) (g .base) (g .goal) (c .before .before .before .before .before .before .before .before .layers-tried .result) (c .before .before .before .before .before .before .before .layers-tried2 .result) (c .before .before .before .before .before .before .layers-tried3 .result) (f .result .a) (f .result .b) (f .result .c) (omega arith) (omega arith) (omega arith) (f .ensures); wrote = c .before .before .put-layers .ensures }))
+    tie.close (tie.spec (λ c. search needs) least-combination-requires (λ c. search needs) (λ c. search needs) put-layers-requires (λ c. search needs) returns)
