@@ -157,7 +157,7 @@ fn open_layers(w: &[u32], caps: usize, loads: usize, k: usize, room: u32) -> u32
     mask
 }
 
-// The legal layers of an edge: bit l - 1 is layer l.
+// The legal layers of an edge: bit l - 1 is layer l. Eight layers are told as a constant, so that the loop over them has a known length.
 pub fn legal(w: &[u32], g: Shape, edge: usize, limit: u32) -> u32
     requires { ⌜ Shaped g ⌝ }
     requires { ⌜ (edge < g .e) × (flatAt g ≤ length (now w)) × (limit ≤ mostNets) ⌝ }
@@ -168,6 +168,9 @@ pub fn legal(w: &[u32], g: Shape, edge: usize, limit: u32) -> u32
     let caps = edge_at(g, edge);
     let loads = layout::loads_at(g) + caps;
     let room = room_of(w[layout::demand_at(g) + edge], limit);
+    if g.k == 8 {
+        return open_layers(w, caps, loads, 8, room);
+    }
     open_layers(w, caps, loads, g.k, room)
 }
 
