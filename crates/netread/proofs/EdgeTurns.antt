@@ -12,20 +12,27 @@ use Rattle.known.specs.declared.Known.{Known}
 use Rattle.layout.specs.Areas.{areasEnd}
 use Rattle.layout.specs.Shapes.{Shaped}
 use Rattle.layout.specs.declared.Shape.{Shape}
+use Rattle.marks.specs.Words.{Fits}
 use Rattle.model.specs.Job.{Net}
 use Rattle.model.specs.Read.{Triple, edgeInside}
+use Rattle.net.specs.AtHand.{tilesOf}
 use Rattle.net.specs.Left.{EdgesLeft, EdgeNext, EdgesThere, next-new, next-room, left-start, last-whole, more-left, more-place}
 use Rattle.net.specs.Table.{EdgesAt}
 use Rattle.scan.specs.Pins.{triple}
 use Rattle.text.specs.Entries.{edgeEntryAt}
 use Rattle.ways.specs.Entry.{edgeOf}
 use Rattle.netread.specs.Edges.{EdgeMarked, EdgesMarked, EdgesGoing}
-use Rattle.netread.specs.Hand.{edges-start, edges-more}
+use Rattle.netread.specs.Hand.{edges-start, edges-more, fits-more}
 use Rattle.netread.specs.declared.Again.{Again}
 
 module _ (s : List ℕ) (g : Shape) (n p low : ℕ) (shaped : Shaped g) (there : EdgesThere s g p) where
-  pub going-start : (getD s p 0 ≡ 10 → ⊥) → (w : List ℕ) → EdgesGoing s g n p p low w w (record { low = low; edges = 0 })
-  going-start h w = record { so-far = []; left = left-start s (g .w) (g .h) p (there .net) (there .edges) h; marked = edges-start g n low w }
+  pub going-start : (getD s p 0 ≡ 10 → ⊥) → (w : List ℕ) → Fits n (tilesOf g w) → EdgesGoing s g n p p low w w (record { low = low; edges = 0 })
+  going-start h w fits = record {
+    so-far = [];
+    left = left-start s (g .w) (g .h) p (there .net) (there .edges) h;
+    marked = edges-start g n low w;
+    fits = fits;
+  }
 
   module _ (i : ℕ) (w₀ w : List ℕ) (v : Again) (room : areasEnd g ≤ length w₀) (going : EdgesGoing s g n p i low w₀ w v) where
     pub next-short : ShortEntry (edgeEntryAt s i)
@@ -62,6 +69,7 @@ module _ (s : List ℕ) (g : Shape) (n p low : ℕ) (shaped : Shaped g) (there :
           so-far = going .so-far ++ (edgeOf g entry ∷ []);
           left = more-left s (g .w) (g .h) p i (going .so-far) (going .left) (k .x) (k .y) (k .third) (k .next) (is-more k (edgeEntryAt s i) is h);
           marked = marked;
+          fits = fits-more g shaped n (going .so-far) w w′ (next-asked .0) entry (next .inside) (next .way) (next-new s g p (going .so-far) entry there next) v r one (going .marked .count) (going .fits);
         }
 
       pub next-place : k .last ≡ false → (i < k .next) × (k .next ≤ length s)

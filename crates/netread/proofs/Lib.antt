@@ -1,4 +1,5 @@
 mod PinTurns
 mod Marked
 mod EdgeTurns
+mod Adds
 mod Whole

@@ -17,9 +17,8 @@ use Rattle.model.specs.Read.{edgeInside}
 use Rattle.net.specs.AtHand.{tilesOf}
 use Rattle.scan.specs.Pins.{triple}
 use Rattle.theory.specs.links.Reach.{hiOf}
-use Rattle.ways.specs.Ends.{endsAfter}
 use Rattle.ways.specs.Entry.{edgeOf, Placed, placed}
-use Rattle.netread.specs.Edges.{EdgeMarked}
+use Rattle.netread.specs.Edges.{bothAfter, EdgeMarked}
 use Rattle.netread.specs.Hand.{elsewhere-marks, elsewhere-list, elsewhere-then}
 use Rattle.netread.specs.declared.Again.{Again}
 
@@ -41,7 +40,7 @@ module _ (g : Shape) (shaped : Shaped g) (x y d : ℕ) (way-small : d ≤ 1) (in
     edge-small = omega (arith, edge-is, at .known, shaped .e-most)
 
     module _ (n : ℕ) (v : Again) (few : v .edges < g .t) (w w₁ : List ℕ) (room : areasEnd g ≤ length w)
-        (marks : tilesOf g w₁ ≡ endsAfter n (tilesOf g w) here (way .tile) d) (out : Outside (tilesAt g) (g .t) w w₁)
+        (marks : tilesOf g w₁ ≡ bothAfter n (tilesOf g w) here (way .tile) d) (out : Outside (tilesAt g) (g .t) w w₁)
         (from low : ℕ) (from-is : from ≡ listAt g) (low-is : low ≡ min (v .low) here) where
       stored : set w₁ (from + v .edges) (way .edge) ≡ set w₁ (listAt g + v .edges) (way .edge)
       stored = ap (λ (i : ℕ). set w₁ (i + v .edges) (way .edge)) from-is
@@ -51,7 +50,7 @@ module _ (g : Shape) (shaped : Shaped g) (x y d : ℕ) (way-small : d ≤ 1) (in
         marks =
             part-outside (listAt g + v .edges) 1 w₁ (set w₁ (listAt g + v .edges) (way .edge)) (set-outside w₁ (listAt g + v .edges) (way .edge)) (tilesAt g) (g .t) (inl (omega arith))
             ∙ marks
-            ∙ ap₂ (λ (a b : ℕ). endsAfter n (tilesOf g w) a b d) here-is ends-there;
+            ∙ ap₂ (λ (a b : ℕ). bothAfter n (tilesOf g w) a b d) here-is ends-there;
         listed = getD-set-same w₁ (listAt g + v .edges) (way .edge) 0 (omega (arith, out .long)) ∙ edge-is;
         others = λ i h. getD-set-other w₁ (listAt g + v .edges) (listAt g + i) (way .edge) 0 (λ e. omega arith) ∙ out .high (listAt g + i) (omega arith);
         elsewhere = elsewhere-then g w w₁ (set w₁ (listAt g + v .edges) (way .edge)) (elsewhere-marks g w w₁ out) (elsewhere-list g w₁ (v .edges) (way .edge) few);

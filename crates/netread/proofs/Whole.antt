@@ -1,6 +1,6 @@
 -- The two lines of a net, one after the other.
 -- Assumes nothing.
-use mathlib.Core.List.{List, map}
+use mathlib.Core.List.{List, [], map}
 use mathlib.Core.Path.{_≡_, refl, sym, ap, ap₂, _∙_}
 use Prim.Native.Nat.{ℕ, _+_, _-_, _*_, _≤_, _<_}
 use native.Mathlib.Omega.{arith}
@@ -12,6 +12,7 @@ use Rattle.layout.specs.Parts.{Outside, part-long}
 use Rattle.layout.specs.Shapes.{Shaped}
 use Rattle.layout.specs.declared.Shape.{Shape}
 use Rattle.marks.specs.Marks.{Older}
+use Rattle.marks.specs.Words.{Fits}
 use Rattle.model.specs.Job.{Pin, Net, Job}
 use Rattle.model.specs.Lists.{In}
 use Rattle.model.specs.Read.{Triple, pinAt}
@@ -66,6 +67,14 @@ module _ (s : List ℕ) (g : Shape) (p q : ℕ) (shaped : Shaped g) (there : Net
         ∙ marked (there .net) (there .pins) .marks
         ∙ ap (λ (l : List ℕ). afterPins n l (there .net .pins)) lent
 
+    -- the pins are at hand, and no edge yet
+    module _ (older : Older n (tilesOf g w)) where
+      hand : AtHand g n (netWith (there .net .pins) []) (putMid from (to - from) w a)
+      hand = pins-hand g shaped n (there .net) (there .ok) w (putMid from (to - from) w a) room older marks-are
+
+      pub still-fits : Fits n (tilesOf g (putMid from (to - from) w a))
+      still-fits = hand .fits
+
     module _ (older : Older n (tilesOf g w)) (w′ : List ℕ) (r : Again)
         (edges-marked : (m : Net) → EdgesAt s (g .w) (g .h) q m → EdgesMarked g n low (m .edges) (putMid from (to - from) w a) w′ r) where
       pub net-read : (j : Job) (net : Net) → LinesOf s g p q j net → NetRead g n j net w w′ r
@@ -73,7 +82,7 @@ module _ (s : List ℕ) (g : Shape) (p q : ℕ) (shaped : Shaped g) (there : Net
           let e = edges-marked net (lines .edges) in
           let same = one-pins s (g .w) (g .h) (g .k) p (there .net) net (there .pins) (lines .pins) in
           record {
-            hand = rw same at (e .hand (there .net .pins) (pins-hand g shaped n (there .net) (there .ok) w (putMid from (to - from) w a) room older marks-are));
+            hand = rw same at (e .hand (there .net .pins) (hand older));
             count = e .count;
             root =
                 e .lowest

@@ -13,7 +13,8 @@ use Rattle.layout.specs.Areas.{tilesAt, linksAt, listAt, areasEnd}
 use Rattle.layout.specs.Parts.{part, part-long, part-outside, Outside, set-outside}
 use Rattle.layout.specs.Shapes.{Shaped}
 use Rattle.layout.specs.declared.Shape.{Shape}
-use Rattle.marks.specs.Marks.{marked}
+use Rattle.marks.specs.Marks.{marked, marksAfter}
+use Rattle.marks.specs.Words.{Fits}
 use Rattle.model.specs.Job.{Pin}
 use Rattle.model.specs.Lists.{has}
 use Rattle.model.specs.Read.{Triple, edgeInside}
@@ -22,9 +23,9 @@ use Rattle.net.specs.AtHand.{tilesOf, AtHand}
 use Rattle.theory.specs.congestion.Sums.{lt-or-ge}
 use Rattle.theory.specs.links.Reach.{loOf, hiOf}
 use Rattle.theory.specs.walk.Ways.{way?, wayEdge}
-use Rattle.ways.specs.Ends.{endsAfter, ends-forth, ends-back, ends-pins, ends-fit}
+use Rattle.ways.specs.Ends.{endsAfter, ends-forth, ends-back, ends-pins, ends-fit, after-long, after-fits}
 use Rattle.ways.specs.Entry.{startOf, edgeOf, Placed, placed}
-use Rattle.netread.specs.Edges.{Elsewhere, EdgeMarked, netWith, EdgesMarked}
+use Rattle.netread.specs.Edges.{Elsewhere, bothAfter, EdgeMarked, netWith, EdgesMarked}
 use Rattle.netread.specs.Ways.{mark-on, mark-back, start-way}
 use Rattle.netread.specs.declared.Again.{Again}
 
@@ -77,6 +78,11 @@ lowest-more f a (y ∷ xs) x = lowest-more f (min a (f y)) xs x
 
 -- ---- one edge more
 
+-- an edge that was not marked, marked in both of its tiles
+both-ends : (n : ℕ) (a : List ℕ) (here there d : ℕ) → marked n a here (8 + d) ≡ false → bothAfter n a here there d ≡ endsAfter n a here there d
+unfolding marksAfter endsAfter
+both-ends n a here there d e = rw e
+
 -- a way that is the new edge, or one of those before
 either : (a b c : Bool) → ((a && b) || (a && c)) ≡ (a && (b || c))
 either true b c = refl
@@ -114,11 +120,14 @@ module _ (g : Shape) (shaped : Shaped g) (n : ℕ) (es : List ℕ) (w w′ : Lis
         none true = refl
         none false = refl
 
+    marks-are : tilesOf g w′ ≡ endsAfter n (tilesOf g w) (startOf g t) (hiOf (g .w) (g .h) (edgeOf g t)) (t .third)
+    marks-are = one .marks ∙ both-ends n (tilesOf g w) here there (t .third) unmarked
+
     -- a way on
     ways-on : (u k : ℕ) → u < g .t → k ≤ 1
         → marked n (tilesOf g w′) u (8 + k) ≡ (way? (g .w) (g .h) u k && has (es ++ (edgeOf g t ∷ [])) (wayEdge (g .w) (g .h) u k))
     ways-on u k b h =
-        ap (λ (l : List ℕ). marked n l u (8 + k)) (one .marks)
+        ap (λ (l : List ℕ). marked n l u (8 + k)) marks-are
         ∙ ends-forth n (tilesOf g w) here there (t .third) here-in there-in way unmarked u k h
         ∙ ap₂ (λ (p q : Bool). p || q) (mark-on g shaped t inside way u k b h) (hand .ways u k b (omega arith))
         ∙ either (way? (g .w) (g .h) u k) (eqb (wayEdge (g .w) (g .h) u k) (edgeOf g t)) (has es (wayEdge (g .w) (g .h) u k))
@@ -129,7 +138,7 @@ module _ (g : Shape) (shaped : Shaped g) (n : ℕ) (es : List ℕ) (w w′ : Lis
         → marked n (tilesOf g w′) u (10 + k) ≡ (way? (g .w) (g .h) u (2 + k) && has (es ++ (edgeOf g t ∷ [])) (wayEdge (g .w) (g .h) u (2 + k)))
     ways-back u k b h =
         let e : 10 + k ≡ 8 + (2 + k) = omega arith in
-        ap (λ (l : List ℕ). marked n l u (10 + k)) (one .marks)
+        ap (λ (l : List ℕ). marked n l u (10 + k)) marks-are
         ∙ ends-back n (tilesOf g w) here there (t .third) here-in there-in way unmarked u k h
         ∙ ap₂ (λ (p q : Bool). p || q) (mark-back g shaped t inside way u k b h) (ap (marked n (tilesOf g w) u) e ∙ hand .ways u (2 + k) b (omega arith))
         ∙ either (way? (g .w) (g .h) u (2 + k)) (eqb (wayEdge (g .w) (g .h) u (2 + k)) (edgeOf g t)) (has es (wayEdge (g .w) (g .h) u (2 + k)))
@@ -159,14 +168,22 @@ module _ (g : Shape) (shaped : Shaped g) (n : ℕ) (es : List ℕ) (w w′ : Lis
 
     hand-more : AtHand g n (netWith ps (es ++ (edgeOf g t ∷ []))) w′
     hand-more = record {
-      fits = rw (one .marks) (ends-fit n (tilesOf g w) here there (t .third) here-in there-in way unmarked (hand .fits));
+      fits = rw marks-are (ends-fit n (tilesOf g w) here there (t .third) here-in there-in way unmarked (hand .fits));
       pins = λ u l b i h.
-          ap (λ (a : List ℕ). marked n a u (l - 1)) (one .marks)
+          ap (λ (a : List ℕ). marked n a u (l - 1)) marks-are
           ∙ ends-pins n (tilesOf g w) here there (t .third) here-in there-in way unmarked u (l - 1) (omega arith)
           ∙ hand .pins u l b i h;
       ways = ways-all;
       list = list-all;
     }
+
+  pub fits-more : Fits n (tilesOf g w) → Fits n (tilesOf g w′)
+  fits-more f =
+      rw (one .marks) (
+      after-fits n (marksAfter n (tilesOf g w) here (8 + t .third)) there (10 + t .third)
+      (omega (arith, there-in, after-long n (tilesOf g w) here (8 + t .third))) (omega arith)
+      (after-fits n (tilesOf g w) here (8 + t .third) here-in (omega arith) f)
+      )
 
   pub edges-more : (low : ℕ) (w₀ : List ℕ) → EdgesMarked g n low es w₀ w v → EdgesMarked g n low (es ++ (edgeOf g t ∷ [])) w₀ w′ r
   edges-more low w₀ m = record {

@@ -2,21 +2,21 @@
 use layout::Shape;
 ghost use mathlib.Core.Bool.{true};
 ghost use mathlib.Core.Path.{_≡_};
-ghost use Prim.Native.Nat.{ℕ, _+_, _-_, _*_, _<_, _≤_, min};
+ghost use Prim.Native.Nat.{ℕ, _+_, _-_, _*_, _^_, _<_, _≤_, min, max};
 ghost use lib.ListN.{length, getD};
 ghost use Rattle.layout.specs.Areas.{tilesAt, areasEnd};
 ghost use Rattle.layout.specs.Parts.{Outside};
 ghost use Rattle.layout.specs.Shapes.{Shaped};
 ghost use Rattle.marks.specs.Marks.{marksAfter, Older};
+ghost use Rattle.marks.specs.Words.{Fits};
 ghost use Rattle.model.specs.Job.{Net, Job};
 ghost use Rattle.model.specs.Read.{edgeInside};
 ghost use Rattle.net.specs.AtHand.{tilesOf};
 ghost use Rattle.net.specs.Left.{EdgesThere};
 ghost use Rattle.net.specs.Table.{PinsAt, EdgesAt};
 ghost use Rattle.scan.specs.Pins.{triple};
-ghost use Rattle.ways.specs.Ends.{endsAfter};
 ghost use Rattle.netread.specs.Pins.{PinsThere, PinsMarked};
-ghost use Rattle.netread.specs.Edges.{EdgeMarked, EdgesMarked};
+ghost use Rattle.netread.specs.Edges.{bothAfter, EdgeMarked, EdgesMarked};
 ghost use Rattle.netread.specs.Net.{NetThere, LinesOf, NetRead};
 
 // What was read of a net again: its lowest tile, and how many edges it has.
@@ -62,22 +62,51 @@ pub fn mark_pins(s: &[u8], at: usize, a: &mut [u32], g: Shape, stamp: u32) -> us
     }
 }
 
-// Marks an edge in its two tiles.
+fn larger(a: u32, b: u32) -> u32
+    ensures { λ r. ⌜ r ≡ max a b ⌝ }
+{
+    if a < b { b } else { a }
+}
+
+// Marks bit i of tile t, b being 2 ^ i. No stamp is above this one, so the larger of the tile's word and stamp × 4,096 has just the bits of the net at hand.
+fn add_mark(a: &mut [u32], stamp: u32, t: usize, b: u32)
+    requires { ⌜ (t < length (now a)) × (stamp ≤ 8192) ⌝ }
+    requires { ⌜ Fits stamp (now a) ⌝ }
+    ensures { λ _. ⌜ ((i : ℕ) → i < 12 → b ≡ 2 ^ i → now (a .exit) ≡ marksAfter stamp (now (a .entry)) t i) ⌝ }
+{
+    let kept = larger(a[t], stamp * 4096);
+    a[t] = kept | b;
+}
+
+// Marks an edge in its two tiles: way d, 0 for east and 1 for north, where it starts, and where it ends the way back, d + 2.
+fn mark_both(a: &mut [u32], stamp: u32, here: usize, there: usize, d: u32)
+    requires { ⌜ (here < length (now a)) × (there < length (now a)) × (d ≤ 1) × (stamp ≤ 8192) ⌝ }
+    requires { ⌜ Fits stamp (now a) ⌝ }
+    ensures { λ _. ⌜ now (a .exit) ≡ bothAfter stamp (now (a .entry)) here there d ⌝ }
+{
+    let way = 256 * (1 + d);
+    add_mark(a, stamp, here, way);
+    add_mark(a, stamp, there, 4 * way);
+}
+
+// Marks an edge in its two tiles, which are a part of the working numbers.
 fn mark_ways(w: &mut [u32], g: Shape, stamp: u32, here: usize, there: usize, d: u32)
     requires { ⌜ Shaped g ⌝ }
     requires { ⌜ (areasEnd g ≤ length (now w)) × (here < g .t) × (there < g .t) × (d ≤ 1) × (stamp ≤ 8192) ⌝ }
-    ensures { λ _. ⌜ tilesOf g (now (w .exit)) ≡ endsAfter stamp (tilesOf g (now (w .entry))) here there d ⌝ }
+    requires { ⌜ Fits stamp (tilesOf g (now w)) ⌝ }
+    ensures { λ _. ⌜ tilesOf g (now (w .exit)) ≡ bothAfter stamp (tilesOf g (now (w .entry))) here there d ⌝ }
     ensures { λ _. ⌜ Outside (tilesAt g) (g .t) (now (w .entry)) (now (w .exit)) ⌝ }
 {
     let from = layout::tiles_at(g);
     let to = layout::links_at(g);
-    ways::mark_ends(&mut w[from..to], stamp, here, there, d);
+    mark_both(&mut w[from..to], stamp, here, there, d);
 }
 
 // Marks an edge, and lists it behind those read before.
 fn mark_edge(w: &mut [u32], g: Shape, stamp: u32, v: Again, x: usize, y: usize, d: usize) -> Again
     requires { ⌜ Shaped g ⌝ }
     requires { ⌜ (areasEnd g ≤ length (now w)) × (stamp ≤ 8192) × (v .edges < g .t) × (d ≤ 1) × (edgeInside (g .w) (g .h) (triple x y d) ≡ true) ⌝ }
+    requires { ⌜ Fits stamp (tilesOf g (now w)) ⌝ }
     ensures { λ r. ⌜ EdgeMarked g stamp (triple x y d) v (now (w .entry)) (now (w .exit)) r ⌝ }
 {
     let here = pins::tile_at(g, x, y);
@@ -94,7 +123,7 @@ fn mark_edge(w: &mut [u32], g: Shape, stamp: u32, v: Again, x: usize, y: usize, 
 // Marks and lists the edges whose entries stand at `at`, one or more.
 fn mark_entries(s: &[u8], at: usize, w: &mut [u32], g: Shape, stamp: u32, low: usize) -> Again
     requires { ⌜ Shaped g ⌝ }
-    requires { ⌜ (areasEnd g ≤ length (now w)) × (stamp ≤ 8192) ⌝ }
+    requires { ⌜ (areasEnd g ≤ length (now w)) × (stamp ≤ 8192) × Fits stamp (tilesOf g (now w)) ⌝ }
     requires { ⌜ EdgesThere (now s) g at × (getD (now s) at 0 ≡ 10 → ⊥) ⌝ }
     ensures { λ r. ⌜ ((n : Net) → EdgesAt (now (s .entry)) (g .w) (g .h) at n → EdgesMarked g stamp low (n .edges) (now (w .entry)) (now (w .exit)) r) ⌝ }
 {
@@ -113,7 +142,7 @@ fn mark_entries(s: &[u8], at: usize, w: &mut [u32], g: Shape, stamp: u32, low: u
 // Marks and lists the edges of the line at `at`, which may be empty.
 pub fn mark_edges(s: &[u8], at: usize, w: &mut [u32], g: Shape, stamp: u32, low: usize) -> Again
     requires { ⌜ Shaped g ⌝ }
-    requires { ⌜ (areasEnd g ≤ length (now w)) × (stamp ≤ 8192) ⌝ }
+    requires { ⌜ (areasEnd g ≤ length (now w)) × (stamp ≤ 8192) × Fits stamp (tilesOf g (now w)) ⌝ }
     requires { ⌜ EdgesThere (now s) g at ⌝ }
     ensures { λ r. ⌜ ((n : Net) → EdgesAt (now (s .entry)) (g .w) (g .h) at n → EdgesMarked g stamp low (n .edges) (now (w .entry)) (now (w .exit)) r) ⌝ }
 {

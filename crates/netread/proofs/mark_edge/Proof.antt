@@ -10,7 +10,7 @@ tile-at-requires : tie.Need-tile-at-requires
 tile-at-requires c κs =
     let x = c .before .args in
     let r = c .before .pre in
-    let p = at (x .g) (r .0) (x .x) (x .y) (x .d) (r .1 .3) (r .1 .4) in
+    let p = at (x .g) (r .0) (x .x) (x .y) (x .d) (r .1 .0 .3) (r .1 .0 .4) in
     (r .0, (p .column, p .row))
 
 mark-ways-requires : tie.Need-mark-ways-requires
@@ -21,10 +21,13 @@ mark-ways-requires c κs =
     let o = c .before .way-out in (
       r .0,
       (
-        r .1 .0,
-        t .ensures .1,
-        there-in (x .g) (r .0) (x .x) (x .y) (x .d) (r .1 .3) (r .1 .4) (t .result) (t .ensures .0) (o .result) (o .ensures),
-        r .1 .3,
+        (
+          r .1 .0 .0,
+          t .ensures .1,
+          there-in (x .g) (r .0) (x .x) (x .y) (x .d) (r .1 .0 .3) (r .1 .0 .4) (t .result) (t .ensures .0) (o .result) (o .ensures),
+          r .1 .0 .3,
+          r .1 .0 .1,
+        ),
         r .1 .1,
       ),
     )
@@ -36,7 +39,7 @@ cast-w c =
     let r = z .pre in
     let t = c .before .before .before .before .before .before .before .before .tile-at in
     let o = c .before .before .before .before .before .before .before .way-out in
-    omega (arith, edge-small (x .g) (r .0) (x .x) (x .y) (x .d) (r .1 .3) (r .1 .4) (t .result) (t .ensures .0) (o .result) (o .ensures))
+    omega (arith, edge-small (x .g) (r .0) (x .x) (x .y) (x .d) (r .1 .0 .3) (r .1 .0 .4) (t .result) (t .ensures .0) (o .result) (o .ensures))
 
 returns : tie.Need-returns
 returns c =
@@ -47,8 +50,8 @@ returns c =
     let o = c .before .before .before .before .before .before .before .before .before .way-out in
     let m = c .before .before .before .before .before .before .before .mark-ways in
     let l = c .before .before .before .before .list-at in
-    edge-marked (x .g) (r .0) (x .x) (x .y) (x .d) (r .1 .3) (r .1 .4) (t .result) (t .ensures .0) (o .result) (o .ensures)
-    (x .stamp) (x .v) (r .1 .2) (x .w .now) (m .last .0) (r .1 .0) (m .ensures .0) (m .ensures .1) (l .result) (c .before .lower .result) (l .ensures .0) (c .before .lower .ensures)
+    edge-marked (x .g) (r .0) (x .x) (x .y) (x .d) (r .1 .0 .3) (r .1 .0 .4) (t .result) (t .ensures .0) (o .result) (o .ensures)
+    (x .stamp) (x .v) (r .1 .0 .2) (x .w .now) (m .last .0) (r .1 .0 .0) (m .ensures .0) (m .ensures .1) (l .result) (c .before .lower .result) (l .ensures .0) (c .before .lower .ensures)
 
 pub mark-edge-spec : {M : Type 1} → statement M
 mark-edge-spec =

@@ -19,7 +19,7 @@ loop-holds : tie.Need-loop-holds Inv-loop μ-loop
 loop-holds c =
     let x = c .before .before .args in
     let r = c .before .before .pre in
-    going-start (x .s .now) (x .g) (x .stamp) (x .at) (x .low) (r .0) (r .1 .1 .0) (r .1 .1 .1) (x .w .now)
+    going-start (x .s .now) (x .g) (x .stamp) (x .at) (x .low) (r .0) (r .1 .1 .0) (r .1 .1 .1) (x .w .now) (r .1 .0 .2)
 
 edge-at-requires : tie.Need-edge-at-requires Inv-loop μ-loop
 edge-at-requires c κs =
@@ -36,7 +36,7 @@ mark-edge-requires c κs =
     let x = z .args in
     let r = z .pre in
     let a = next-asked (x .s .now) (x .g) (x .stamp) (x .at) (x .low) (r .0) (r .1 .1 .0) (l .i) (x .w .now) (l .w) (l .v) (r .1 .0 .0) (l .inv) (e .edge-at .result) (e .edge-at .ensures) in
-    (r .0, (a .0, r .1 .0 .1, a .1, a .2, a .3))
+    (r .0, ((a .0, r .1 .0 .1, a .1, a .2, a .3), l .inv .fits))
 
 same-length : tie.Need-same-length Inv-loop μ-loop
 same-length c =

@@ -1,7 +1,7 @@
 -- `read_net` meets its contract.
 -- Assumes nothing.
 use borrow.Author.Needs.{needs}
-use Rattle.netread.proofs.Whole.{pins-are, edges-are, lent-room, still-room, net-read}
+use Rattle.netread.proofs.Whole.{pins-are, edges-are, lent-room, still-room, still-fits, net-read}
 use Rattle.netread.proofs.read_net.Statement.{statement}
 use Rattle.netread.proofs.read_net.Tie as tie
 
@@ -35,6 +35,8 @@ mark-edges-requires c κs =
           still-room (x .s .now) (x .g) (x .pins) (x .edges) (r .0) (r .1 .1) (x .stamp) (x .w .now) (r .1 .0 .0) (from .result) (to .result) (from .ensures .0) (to .ensures .0)
               (m .last .1 .1 .0) (m .result) (m .ensures),
           r .1 .0 .1,
+          still-fits (x .s .now) (x .g) (x .pins) (x .edges) (r .0) (r .1 .1) (x .stamp) (x .w .now) (r .1 .0 .0) (from .result) (to .result) (from .ensures .0) (to .ensures .0)
+              (m .last .1 .1 .0) (m .result) (m .ensures) (r .1 .0 .2),
         ),
         edges-are (x .s .now) (x .g) (x .pins) (x .edges) (r .0) (r .1 .1),
       ),
