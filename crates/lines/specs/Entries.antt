@@ -10,14 +10,10 @@ use Rattle.model.specs.Limits.{mostCapacity}
 use Rattle.model.specs.Lists.{all}
 use Rattle.model.specs.Read.{Result, refused, found}
 use Rattle.text.specs.Entries.{onNumber}
-use Rattle.text.specs.Number.{numberAt}
+unfoldable pub use Rattle.text.specs.Entries.{endedAt}
 use Rattle.text.specs.declared.Numeral.{Numeral}
 use Rattle.text.specs.declared.Numeral.the-variants.{Value, Malformed}
 use Rattle.lines.specs.Spread.{spread}
-
--- a number and the byte behind it
-unfoldable pub endedAt : List ℕ → ℕ → ℕ → Numeral
-endedAt s at end = onNumber (numberAt s at) (λ v next. cond (eqb (getD s next 0) end) (Value v (next + 1)) Malformed) Malformed
 
 -- numbers, and the text after them; none where the form or their count is wrong
 abbrev pub Numbered : Type 0

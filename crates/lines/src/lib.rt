@@ -102,11 +102,25 @@ fn put(w: &mut [u32], to: usize, v: usize, inside: bool) -> bool
     inside
 }
 
+// The number at `at`, which mostly has one or two digits, the byte `end` behind it, and the place after that.
+fn entry_at(s: &[u8], at: usize, end: u8) -> Numeral
+    requires { ⌜ (0 < end) × (end < 48) ⌝ }
+    ensures { λ r. ⌜ r ≡ endedAt (now (s .entry)) at end ⌝ }
+{
+    if !text::room(s, at, 3) {
+        return ended(s, at, end);
+    }
+    match text::short(s, at, end) {
+        Numeral::Malformed => ended(s, at, end),
+        Numeral::Value(v, next) => Numeral::Value(v, next),
+    }
+}
+
 // The byte behind a number of which `left` are left, it among them.
 fn end_byte(left: usize) -> u8
     requires { ⌜ 0 < left ⌝ }
     ensures { λ r. ⌜ r ≡ ender (left - 1) ⌝ }
-    ensures { λ r. ⌜ 0 < r ⌝ }
+    ensures { λ r. ⌜ (0 < r) × (r < 48) ⌝ }
 {
     if left == 1 { 10 } else { 44 }
 }
@@ -132,7 +146,7 @@ fn entries(
     let mut left = count;
     let mut inside = true;
     while 0 < left {
-        let Numeral::Value(v, next) = ended(s, i, end_byte(left)) else {
+        let Numeral::Value(v, next) = entry_at(s, i, end_byte(left)) else {
             return Listed::Refused(Refusal::Line(Fault::Form, line));
         };
         inside = put(w, to, v, inside);

@@ -10,5 +10,5 @@ pub end-byte-spec : {M : Type 1} → statement M
 end-byte-spec =
     tie.close
     (tie.spec
-    (λ c. (rw (c .if1 .taken), omega arith))
-    (λ c. (sym (ender-comma (c .before .args .left) (c .before .pre) (c .if1 .left)), omega arith)))
+    (λ c. (rw (c .if1 .taken), (omega arith, omega arith)))
+    (λ c. (sym (ender-comma (c .before .args .left) (c .before .pre) (c .if1 .left)), (omega arith, omega arith))))

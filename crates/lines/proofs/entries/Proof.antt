@@ -33,7 +33,7 @@ entries-spec =
     let c8 = c5 .before .before .before in
     let l = c5 .loop in
     let a = c8 .args in
-    (sym (l .inv .3 ∙ rw (list-none (a .s .now) (l .left) (l .i) (c4 .loop-test .taken) (ap (endedAt (a .s .now) (l .i)) (sym (c .before .before .before .end-byte .ensures .0)) ∙ sym (c .before .before .ended .ensures) ∙ c .enum-told .given .1))), (tt, l .inv .1)))
+    (sym (l .inv .3 ∙ rw (list-none (a .s .now) (l .left) (l .i) (c4 .loop-test .taken) (ap (endedAt (a .s .now) (l .i)) (sym (c .before .before .before .end-byte .ensures .0)) ∙ sym (c .before .before .entry-at .ensures) ∙ c .enum-told .given .1))), (tt, l .inv .1)))
     (λ c κs. let c6 = c .before .before .before .before .before .before in
     let c7 = c6 .before in
     let c10 = c7 .before .before .before in
@@ -56,8 +56,8 @@ entries-spec =
     let a = c13 .args in
     let g = c5 .v .given in
     let p = c .before .before .put in
-    let e = ap (endedAt (a .s .now) (l .i)) (sym (c8 .end-byte .ensures .0)) ∙ sym (c7 .ended .ensures) ∙ g .1 in (
-      ended-within (a .s .now) (l .i) (c8 .end-byte .result) (g .0 .0) (g .0 .1 .0) (c8 .end-byte .ensures .1) (sym (c7 .ended .ensures) ∙ g .1),
+    let e = ap (endedAt (a .s .now) (l .i)) (sym (c8 .end-byte .ensures .0)) ∙ sym (c7 .entry-at .ensures) ∙ g .1 in (
+      ended-within (a .s .now) (l .i) (c8 .end-byte .result) (g .0 .0) (g .0 .1 .0) (c8 .end-byte .ensures .1 .0) (sym (c7 .entry-at .ensures) ∙ g .1),
       ap length (p .ensures .1) ∙ kept-length (l .w) (l .to) (g .0 .0) ∙ l .inv .1,
       room-kept (a .k) (l .to) (l .left) (g .0 .0) (l .w) (p .last .0) (p .ensures .1) (c9 .loop-test .taken) (l .inv .2),
       l .inv .3 ∙ turn (a .k) (a .line) (a .s .now) (l .left) (l .i) (g .0 .0) (g .0 .1 .0) (l .inside) (p .result) (l .w) (p .last .0) (l .to) (c9 .loop-test .taken) e (p .ensures .0) (p .ensures .1),
