@@ -11,13 +11,15 @@ use Rattle.layout.specs.Shapes.{Shaped}
 use Rattle.layout.specs.declared.Shape.{Shape}
 use Rattle.text.specs.Refusals.{placeOf}
 use Rattle.text.specs.declared.Cursor.{Cursor}
+use Rattle.lines.specs.Keyed.{keyBytes}
+use Rattle.lines.specs.Reads.{NumberRead}
 use Rattle.lines.specs.Told.{refusedBy, After}
 use Rattle.lines.specs.declared.Field.{Field}
 use Rattle.lines.specs.declared.Field.the-variants.{Value, Refused}
 use Rattle.lines.specs.declared.Listed.{Listed}
 use Rattle.lines.specs.declared.Listed.the-variants.{Next, Refused as Unlisted}
 use Rattle.head.specs.Capacities.{capacitiesOf}
-use Rattle.head.specs.Reads.{HeadJob, headIn, restIn, read-splits}
+use Rattle.head.specs.Reads.{HeadJob, stackIn, headIn, restIn, read-splits}
 use Rattle.head.specs.declared.Weights.{Weights}
 use Rattle.head.specs.declared.Head.{Head}
 use Rattle.head.specs.declared.Sizes.{Sizes}
@@ -36,6 +38,14 @@ sizesTold s (Unsized r) = refusedBy r
 abbrev pub sizesHold : ℕ → ℕ → Sizes → Type 0
 sizesHold size line (sized g c) = Shaped g × After size line c
 sizesHold size line (Unsized r) = Unit {0}
+
+-- what is told of the line `layers`, wherever it was read
+pub record StackTold (w h : ℕ) (s : List ℕ) (c : Cursor) (r : Sizes) : Type 0 where
+  pub told : sizesTold s r ≡ stackIn w h (placeOf s c)
+  pub holds : sizesHold (length s) (c .line + 1) r
+
+abbrev pub StackRead : ℕ → ℕ → Field → Sizes → Type 0
+StackRead w h f r = (s : List ℕ) (c : Cursor) → NumberRead s c (keyBytes "layers") f → StackTold w h s c r
 
 pub record Small (v : Weights) : Type 0 where
   pub alpha : v .alpha ≤ mostWeight

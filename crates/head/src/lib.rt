@@ -15,8 +15,8 @@ ghost use Rattle.layout.specs.Shapes.{Shaped};
 ghost use Rattle.text.specs.Refusals.{placeOf};
 ghost use Rattle.lines.specs.Spread.{spread};
 ghost use Rattle.lines.specs.Told.{fieldTold, listTold, listIn, mapped};
-ghost use Rattle.head.specs.Reads.{stackIn, sizesIn, weightsIn, layerIn, netsIn, bodyIn, headIn};
-ghost use Rattle.head.specs.Told.{sizesTold, sizesHold, weightsTold, weightsHold, netsHold, capacitiesTold, beyondOf, headTold, headHolds};
+ghost use Rattle.head.specs.Reads.{sizesIn, weightsIn, layerIn, netsIn, bodyIn, headIn};
+ghost use Rattle.head.specs.Told.{sizesTold, sizesHold, StackRead, weightsTold, weightsHold, netsHold, capacitiesTold, beyondOf, headTold, headHolds};
 
 // "W = width and H = height, 1 to 64"
 const LEAST_SIDE: usize = 1;
@@ -61,14 +61,12 @@ pub enum HeadRead {
     Refused(Refusal),
 }
 
-// The line `layers`, after `width` and `height`.
-fn stack_line(s: &[u8], c: Cursor, w: usize, h: usize) -> Sizes
-    requires { ⌜ (c .at ≤ length (now s)) × (c .line < 1000) ⌝ }
+// What the line `layers` says, after `width` and `height`.
+fn stack_of(f: Field, w: usize, h: usize) -> Sizes
     requires { ⌜ (1 ≤ w) × (w ≤ 64) × (1 ≤ h) × (h ≤ 64) ⌝ }
-    ensures { λ r. ⌜ sizesTold (now (s .entry)) r ≡ stackIn w h (placeOf (now (s .entry)) c) ⌝ }
-    ensures { λ r. ⌜ sizesHold (length (now (s .entry))) (c .line + 1) r ⌝ }
+    ensures { λ r. ⌜ StackRead w h f r ⌝ }
 {
-    match lines::number_line(s, c, b"layers=") {
+    match f {
         Field::Refused(r) => Sizes::Refused(r),
         Field::Value(k, d) => match Stack::new(k) {
             Made::Outside => Sizes::Refused(Refusal::Line(Fault::Range, d.line)),
@@ -83,11 +81,15 @@ fn read_sizes(s: &[u8], c: Cursor) -> Sizes
     ensures { λ r. ⌜ sizesTold (now (s .entry)) r ≡ sizesIn (placeOf (now (s .entry)) c) ⌝ }
     ensures { λ r. ⌜ sizesHold (length (now (s .entry))) (c .line + 3) r ⌝ }
 {
-    match lines::ranged(s, c, b"width=", LEAST_SIDE, MOST_SIDE) {
+    let t = lines::three_lines(s, c, b"width=", b"height=", b"layers=");
+    let width = t.first;
+    let height = t.second;
+    let layers = t.third;
+    match lines::in_range(width, LEAST_SIDE, MOST_SIDE) {
         Field::Refused(r) => Sizes::Refused(r),
-        Field::Value(w, d) => match lines::ranged(s, d, b"height=", LEAST_SIDE, MOST_SIDE) {
+        Field::Value(w, _) => match lines::in_range(height, LEAST_SIDE, MOST_SIDE) {
             Field::Refused(r) => Sizes::Refused(r),
-            Field::Value(h, e) => stack_line(s, e, w, h),
+            Field::Value(h, _) => stack_of(layers, w, h),
         },
     }
 }
@@ -98,13 +100,17 @@ fn read_weights(s: &[u8], c: Cursor) -> Weighed
     ensures { λ r. ⌜ weightsTold (now (s .entry)) r ≡ weightsIn (placeOf (now (s .entry)) c) ⌝ }
     ensures { λ r. ⌜ weightsHold (length (now (s .entry))) (c .line + 3) r ⌝ }
 {
-    match lines::ranged(s, c, b"alpha=", 0, MOST_WEIGHT) {
+    let t = lines::three_lines(s, c, b"alpha=", b"beta=", b"gamma=");
+    let first = t.first;
+    let second = t.second;
+    let third = t.third;
+    match lines::in_range(first, 0, MOST_WEIGHT) {
         Field::Refused(r) => Weighed::Refused(r),
-        Field::Value(alpha, d) => match lines::ranged(s, d, b"beta=", 0, MOST_WEIGHT) {
+        Field::Value(alpha, _) => match lines::in_range(second, 0, MOST_WEIGHT) {
             Field::Refused(r) => Weighed::Refused(r),
-            Field::Value(beta, e) => match lines::ranged(s, e, b"gamma=", 0, MOST_WEIGHT) {
+            Field::Value(beta, _) => match lines::in_range(third, 0, MOST_WEIGHT) {
                 Field::Refused(r) => Weighed::Refused(r),
-                Field::Value(gamma, f) => Weighed::Weights(Weights { alpha, beta, gamma }, f),
+                Field::Value(gamma, d) => Weighed::Weights(Weights { alpha, beta, gamma }, d),
             },
         },
     }

@@ -1,11 +1,23 @@
 -- A number that was read, and its range.
 -- Assumes nothing.
-use mathlib.Core.Path.{_≡_}
+use mathlib.Core.Path.{_≡_, refl, sym}
+use mathlib.Core.Bool.{Bool, true, false, cond, _&&_}
 use mathlib.Core.List.{List}
 use Prim.Native.Nat.{ℕ, _≤_, _<_}
+use native.Mathlib.Omega.{arith}
+use lib.Dec.{leb}
 use borrow.Author.Tests.{le-leb, lt-leb}
-use Rattle.model.specs.Read.{Place, refused, found}
+use Rattle.model.specs.Read.{Place, Result, refused, found, next, _>>=_, _>>_, need, give}
+use Rattle.text.specs.Refusals.{placeOf}
+use Rattle.text.specs.declared.Cursor.{Cursor}
+use Rattle.text.specs.declared.Fault.the-variants.{Range}
+use Rattle.text.specs.declared.Refusal.{Refusal}
+use Rattle.text.specs.declared.Refusal.the-variants.{Line}
 use Rattle.lines.specs.Keyed.{numberLineBy, rangedBy}
+use Rattle.lines.specs.Reads.{inRange}
+use Rattle.lines.specs.Told.{refusedBy, fieldTold, fieldIn}
+use Rattle.lines.specs.declared.Field.{Field}
+use Rattle.lines.specs.declared.Field.the-variants.{Value, Refused}
 
 module _ (key : List ℕ) (low high : ℕ) (p : Place) where
   pub range-refused : (n l : ℕ) → numberLineBy key p ≡ refused n l → rangedBy key low high p ≡ refused n l
@@ -24,3 +36,44 @@ module _ (key : List ℕ) (low high : ℕ) (p : Place) where
     pub range-in : low ≤ v → v ≤ high → rangedBy key low high p ≡ found v q
     unfolding rangedBy
     range-in h k = rw (e, le-leb low v h, le-leb v high k)
+
+-- ---- the code's answer: by the tests that it makes, and in the definitions' words
+
+module _ (low high v : ℕ) (c : Cursor) where
+  pub below : v < low → inRange low high (Value v c) ≡ Refused (Line Range (c .line))
+  below h = rw (lt-leb low v h)
+
+  pub above : low ≤ v → high < v → inRange low high (Value v c) ≡ Refused (Line Range (c .line))
+  above h k = rw (le-leb low v h, lt-leb v high k)
+
+  pub between : low ≤ v → v ≤ high → inRange low high (Value v c) ≡ Value v c
+  between h k = rw (le-leb low v h, le-leb v high k)
+
+pub range-told : (key : List ℕ) (low high : ℕ) (p : Place) (s : List ℕ) (f : Field) → fieldTold s f ≡ numberLineBy key p → fieldTold s (inRange low high f) ≡ rangedBy key low high p
+unfolding rangedBy
+range-told key low high p s (Value v c) e = rw (sym e) (go (leb low v && leb v high))
+  where
+    go : (b : Bool) → fieldTold s (cond b (Value v c) (Refused (Line Range (c .line)))) ≡ next (need 3 b (placeOf s c)) (λ u. give v)
+    go true = refl
+    go false = refl
+range-told key low high p s (Refused r) e = rw (sym e)
+
+pub range-within : (low high size line : ℕ) (f : Field) → fieldIn size line f → fieldIn size line (inRange low high f)
+range-within low high size line (Value v c) h = go (leb low v && leb v high)
+  where
+    go : (b : Bool) → fieldIn size line (cond b (Value v c) (Refused (Line Range (c .line))))
+    go true = h
+    go false = tt
+range-within low high size line (Refused r) h = tt
+
+not-value : (r : Refusal) (v : ℕ) (c : Cursor) → Refused r ≡ Value v c → ⊥
+not-value r v c e = let z : _≡_ {A = ℕ} 0 1 = cc in omega arith
+
+-- a number in its range is the one that was read
+pub range-same : (low high : ℕ) (f : Field) (v : ℕ) (c : Cursor) → inRange low high f ≡ Value v c → f ≡ Value v c
+range-same low high (Value w d) v c e = go (leb low w && leb w high) e
+  where
+    go : (b : Bool) → cond b (Value w d) (Refused (Line Range (d .line))) ≡ Value v c → Value w d ≡ Value v c
+    go true e = e
+    go false e = absurd (not-value _ v c e)
+range-same low high (Refused r) v c e = absurd (not-value r v c e)

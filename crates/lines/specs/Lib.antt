@@ -2,3 +2,4 @@ pub mod Keyed
 pub mod Entries
 pub mod Spread
 pub mod Told
+pub mod Reads

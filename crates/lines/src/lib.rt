@@ -13,6 +13,7 @@ ghost use Rattle.text.specs.Refusals.{placeOf};
 ghost use Rattle.lines.specs.Keyed.{oneLine, numberLineBy, rangedBy, capacityLineBy};
 ghost use Rattle.lines.specs.Spread.{kept, spread, Room};
 ghost use Rattle.lines.specs.Told.{fieldTold, fieldIn, listTold, listIn, mapped};
+ghost use Rattle.lines.specs.Reads.{inRange, Ready, NumberRead, behindOf, ThreeReady, ThreeRead};
 ghost use Rattle.lines.specs.Entries.{endedAt, ender, listAt, listLine, finish};
 
 // "capacities, comma between, lowest y first, then lowest x, each 0 to 255"
@@ -67,13 +68,11 @@ pub fn number_line(s: &[u8], c: Cursor, key: &[u8]) -> Field
     }
 }
 
-// A line with one number from `low` to `high`.
-pub fn ranged(s: &[u8], c: Cursor, key: &[u8], low: usize, high: usize) -> Field
-    requires { ⌜ (c .at ≤ length (now s)) × (c .line < 1048576) × (oneLine (now key) ≡ true) ⌝ }
-    ensures { λ r. ⌜ fieldTold (now (s .entry)) r ≡ rangedBy (now (key .entry)) low high (placeOf (now (s .entry)) c) ⌝ }
-    ensures { λ r. ⌜ fieldIn (length (now (s .entry))) (c .line + 1) r ⌝ }
+// The number of a line, where it is from `low` to `high`.
+pub fn in_range(f: Field, low: usize, high: usize) -> Field
+    ensures { λ r. ⌜ r ≡ inRange low high f ⌝ }
 {
-    match number_line(s, c, key) {
+    match f {
         Field::Refused(r) => Field::Refused(r),
         Field::Value(v, d) => {
             if v < low {
@@ -84,6 +83,97 @@ pub fn ranged(s: &[u8], c: Cursor, key: &[u8], low: usize, high: usize) -> Field
             }
             Field::Value(v, d)
         }
+    }
+}
+
+// A line with one number from `low` to `high`.
+pub fn ranged(s: &[u8], c: Cursor, key: &[u8], low: usize, high: usize) -> Field
+    requires { ⌜ (c .at ≤ length (now s)) × (c .line < 1048576) × (oneLine (now key) ≡ true) ⌝ }
+    ensures { λ r. ⌜ fieldTold (now (s .entry)) r ≡ rangedBy (now (key .entry)) low high (placeOf (now (s .entry)) c) ⌝ }
+    ensures { λ r. ⌜ fieldIn (length (now (s .entry))) (c .line + 1) r ⌝ }
+{
+    in_range(number_line(s, c, key), low, high)
+}
+
+// ---- the reader: lines with one number, one after the other
+
+// A reader: the job text, and the place in it of the line that comes next.
+pub struct Reader<'a> {
+    pub text: &'a [u8],
+    pub place: Cursor,
+}
+
+// What three lines say that follow each other.
+pub struct Three {
+    pub first: Field,
+    pub second: Field,
+    pub third: Field,
+}
+
+// The place behind a line that was read at c; a refused line leaves it as it is.
+fn behind(f: Field, c: Cursor) -> Cursor
+    ensures { λ r. ⌜ r ≡ behindOf f c ⌝ }
+{
+    match f {
+        Field::Value(_, next) => next,
+        Field::Refused(_) => c,
+    }
+}
+
+// The line at a place of the text: what the reader leaves to a function on slice and place.
+fn number_at<'a>(s: &'a [u8], c: Cursor, key: &'a [u8]) -> Field
+    requires { ⌜ Ready (now s) c (now key) ⌝ }
+    ensures { λ r. ⌜ NumberRead (now (s .entry)) c (now (key .entry)) r ⌝ }
+{
+    number_line(s, c, key)
+}
+
+// A reader of the text, at a place.
+pub fn reader_at<'a>(text: &'a [u8], place: Cursor) -> Reader<'a>
+    ensures { λ r. ⌜ (r .text ≡ text .entry) × (r .place ≡ place) ⌝ }
+{
+    Reader { text, place }
+}
+
+// The line at the reader's place.
+pub fn number_here<'a>(r: Reader<'a>, key: &'a [u8]) -> Field
+    requires { ⌜ Ready (now (r .text)) (r .place) (now key) ⌝ }
+    ensures { λ f. ⌜ NumberRead (now (r .entry .text)) (r .entry .place) (now (key .entry)) f ⌝ }
+{
+    number_at(r.text, r.place, key)
+}
+
+// The reader moved forward, behind the line that it read.
+pub fn moved<'a>(r: Reader<'a>, f: Field) -> Reader<'a>
+    ensures { λ m. ⌜ (m .text ≡ r .entry .text) × (m .place ≡ behindOf f (r .entry .place)) ⌝ }
+{
+    Reader {
+        text: r.text,
+        place: behind(f, r.place),
+    }
+}
+
+// Three lines with one number each, by one reader that moves forward from line to line.
+pub fn three_lines<'a>(
+    s: &'a [u8],
+    c: Cursor,
+    first: &'a [u8],
+    second: &'a [u8],
+    third: &'a [u8],
+) -> Three
+    requires { ⌜ ThreeReady (now s) c (now first) (now second) (now third) ⌝ }
+    ensures { λ r. ⌜ ThreeRead (now (s .entry)) c (now (first .entry)) (now (second .entry)) (now (third .entry)) r ⌝ }
+{
+    let r = reader_at(s, c);
+    let a = number_here(r, first);
+    let r = moved(r, a);
+    let b = number_here(r, second);
+    let r = moved(r, b);
+    let d = number_here(r, third);
+    Three {
+        first: a,
+        second: b,
+        third: d,
     }
 }
 
