@@ -7,7 +7,7 @@ use mathlib.Core.Logic.{_⊎_, inl, inr, _≢_}
 use Prim.Native.Nat.{ℕ, zero, suc, _+_, _-_, _*_, _≤_, _<_}
 use native.Mathlib.Numerals.{add-one}
 use native.Mathlib.Omega.{arith}
-use borrow.Author.Tests.{ltb-true, ltb-false}
+use borrow.Author.Tests.{ltb-true, ltb-false, lt-ltb, le-ltb}
 use lib.Count.{leadingZeros, trailingZeros}
 use lib.Dec.{T, eqb, eqb→eq, leb, leb→le, ltb, ltb→lt, lt→ltb}
 use lib.ListN.{getD}
@@ -48,29 +48,15 @@ reaches-test goal cost span h = go (lt-or-ge span (goal - cost)) (lt-or-ge (goal
     go (inr a) (inr b) = eqb-true span (goal - cost) (omega arith) ∙ sym (eqb-true (span + cost) goal (omega arith))
 
 -- cost and vias are over the goal, or not
-ltb-yes : (x y : ℕ) → x < y → true ≡ ltb x y
-ltb-yes x y h = go (ltb x y) refl
-  where
-    go : (q : Bool) → ltb x y ≡ q → true ≡ ltb x y
-    go true i = sym i
-    go false i = absurd (subst (λ (b : Bool). T b) i (lt→ltb x y h))
-
-ltb-no : (x y : ℕ) → y ≤ x → false ≡ ltb x y
-ltb-no x y h = go (ltb x y) refl
-  where
-    go : (q : Bool) → ltb x y ≡ q → false ≡ ltb x y
-    go false i = sym i
-    go true i = absurd (omega (arith, ltb→lt x y (subst (λ (b : Bool). T b) (sym i) tt)))
-
 pub exceeds-yes : (goal cost span : ℕ) → goal < cost → true ≡ ltb goal (span + cost)
-exceeds-yes goal cost span h = ltb-yes goal (span + cost) (omega arith)
+exceeds-yes goal cost span h = sym (lt-ltb goal (span + cost) (omega arith))
 
 pub exceeds-test : (goal cost span : ℕ) → cost ≤ goal → ltb (goal - cost) span ≡ ltb goal (span + cost)
 exceeds-test goal cost span h = go (lt-or-ge (goal - cost) span)
   where
     go : (goal - cost < span) ⊎ (span ≤ goal - cost) → ltb (goal - cost) span ≡ ltb goal (span + cost)
-    go (inl a) = sym (ltb-yes (goal - cost) span a) ∙ ltb-yes goal (span + cost) (omega arith)
-    go (inr a) = sym (ltb-no (goal - cost) span a) ∙ ltb-no goal (span + cost) (omega arith)
+    go (inl a) = lt-ltb (goal - cost) span a ∙ sym (lt-ltb goal (span + cost) (omega arith))
+    go (inr a) = le-ltb (goal - cost) span a ∙ sym (le-ltb goal (span + cost) (omega arith))
 
 pub is-over : (t : Bool) (x y : ℕ) → t ≡ ltb x y → t ≡ true → x < y
 is-over t x y e h = ltb-true x y (sym e ∙ h)
