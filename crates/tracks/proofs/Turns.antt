@@ -1,11 +1,13 @@
 -- The loops over the edges and over an edge's layers: what a turn finds, on plain lists.
 -- Assumes nothing.
-use mathlib.Core.Bool.{Bool}
+use mathlib.Core.Bool.{Bool, true, false, cond}
 use mathlib.Core.List.{List}
 use mathlib.Core.Path.{_≡_, refl, sym, ap, ap₂, _∙_}
-use Prim.Native.Nat.{ℕ, zero, suc, _+_, _-_, _*_, _≤_, _<_, max}
+use Prim.Native.Nat.{ℕ, zero, suc, _+_, _-_, _*_, _^_, _≤_, _<_, max}
+use native.Mathlib.Nat.{pow-suc, pow-le-pow-right}
 use native.Mathlib.Numerals.{add-one}
 use native.Mathlib.Omega.{arith}
+use lib.Dec.{lit<}
 use lib.ListN.{getD}
 use Rattle.layout.specs.Areas.{loadsAt, demandAt, flatAt}
 use Rattle.layout.specs.Parts.{Outside}
@@ -34,20 +36,39 @@ most-next f n = let z : 0 + n ≡ n = omega arith in rw add-one (omega (arith, m
 pub sum-at-next : (a k : ℕ) (w : List ℕ) → sumAt a (k + 1) w ≡ sumAt a k w + getD w (a + k) 0
 sum-at-next a k w = sum-next (λ l. getD w (a + l) 0) k
 
--- ---- the bits of an edge's layers, from the last one down
+-- ---- the bits of an edge's layers, from the first one up
 
-pub bits-none : (f : ℕ → Bool) (k : ℕ) → 0 ≡ bitsUp f k (k - k)
-bits-none f k = let e : k - k ≡ 0 = omega arith in rw e
+twice : (b : Bool) (n : ℕ) → 2 * cond b (2 ^ n) 0 ≡ cond b (2 ^ suc n) 0
+twice true n = omega (arith, pow-suc 2 n)
+twice false n = omega arith
 
-pub bits-next : (f : ℕ → Bool) (i k : ℕ) → 1 ≤ i → i ≤ k → bitsUp f (i - 1) (k - (i - 1)) ≡ bit (f (i - 1)) + 2 * bitsUp f i (k - i)
-bits-next f zero k h l = absurd (omega arith)
-bits-next f (suc n) k h l =
-    let p : suc n - 1 ≡ n = omega arith in
-    let q : k - n ≡ suc (k - suc n) = omega arith in
-    rw (p, q)
+first-bit : (b : Bool) → bit b ≡ cond b (2 ^ 0) 0
+first-bit true = refl
+first-bit false = refl
 
-pub bits-all : (f : ℕ → Bool) (i k : ℕ) → i ≤ 0 → bitsUp f i (k - i) ≡ bitsUp f 0 k
-bits-all f i k h = let e : i ≡ 0 = omega arith in let q : k - i ≡ k = omega arith in ap₂ (λ (a n : ℕ). bitsUp f a n) e q
+bits-suc : (f : ℕ → Bool) (a n : ℕ) → bitsUp f a (suc n) ≡ bitsUp f a n + cond (f (a + n)) (2 ^ n) 0
+bits-suc f a zero = let e : a ≡ a + 0 = omega arith in omega (arith, first-bit (f a), ap (λ (i : ℕ). cond (f i) (2 ^ 0) 0) e)
+bits-suc f a (suc n) =
+    let e : suc a + n ≡ a + suc n = omega arith in
+    omega (arith, bits-suc f (suc a) n, twice (f (suc a + n)) n, ap (λ (i : ℕ). cond (f i) (2 ^ suc n) 0) e)
+
+pub bits-next : (f : ℕ → Bool) (n : ℕ) → bitsUp f 0 (n + 1) ≡ bitsUp f 0 n + cond (f n) (2 ^ n) 0
+bits-next f n = let z : 0 + n ≡ n = omega arith in rw add-one (omega (arith, bits-suc f 0 n, ap (λ (i : ℕ). cond (f i) (2 ^ n) 0) z))
+
+-- the value of the next layer's bit
+pub value-next : (n : ℕ) → 2 * 2 ^ n ≡ 2 ^ (n + 1)
+value-next n = rw add-one (omega (arith, pow-suc 2 n))
+
+pub value-small : (n : ℕ) → n ≤ 8 → 2 ^ n ≤ 256
+value-small n h = let p : 2 ^ n ≤ 2 ^ 8 = pow-le-pow-right (lit< tt) h in omega (arith, p)
+
+pub part-small : (b : Bool) (v : ℕ) → cond b v 0 ≤ v
+part-small true v = omega arith
+part-small false v = omega arith
+
+-- eight layers as two fours
+pub bits-halves : (f h : ℕ → Bool) → ((i : ℕ) → h i ≡ f (4 + i)) → bitsUp f 0 4 + 16 * bitsUp h 0 4 ≡ bitsUp f 0 8
+bits-halves f h e = omega (arith, ap bit (e 0), ap bit (e 1), ap bit (e 2), ap bit (e 3))
 
 -- ---- what is written lies above what is read
 

@@ -2,6 +2,7 @@
 // layer.
 use layout::Shape;
 ghost use mathlib.Core.Path.{_≡_};
+ghost use mathlib.Core.Bool.{cond};
 ghost use Prim.Native.Nat.{ℕ, _+_, _-_, _*_, _^_, _<_, _≤_, max};
 ghost use lib.ListN.{length, getD, replicate};
 ghost use Rattle.layout.specs.Areas.{loadsAt, demandAt, flatAt, tilesAt, areasEnd};
@@ -9,7 +10,6 @@ ghost use Rattle.layout.specs.Parts.{Outside};
 ghost use Rattle.layout.specs.Shapes.{Shaped};
 ghost use Rattle.model.specs.Job.{Job, edgeCount};
 ghost use Rattle.model.specs.Limits.{mostLayers, mostCapacity, mostNets};
-ghost use Rattle.model.specs.Lists.{bit};
 ghost use Rattle.model.specs.Overflow.{over, ceilDiv};
 ghost use Rattle.net.specs.SoFar.{Capacities};
 ghost use Rattle.tracks.specs.Places.{SmallCapacities};
@@ -131,13 +131,13 @@ fn room_of(left: u32, limit: u32) -> u32
     0
 }
 
-// 1 where one more net may go on a layer.
-fn open_to(load: u32, cap: u32, room: u32) -> u32
+// The value given where one more net may go on a layer, and else 0.
+fn open_to(load: u32, cap: u32, room: u32, value: u32) -> u32
     requires { ⌜ cap + room < 2 ^ 32 ⌝ }
-    ensures { λ r. ⌜ r ≡ bit (openTo load cap room) ⌝ }
+    ensures { λ r. ⌜ r ≡ cond (openTo load cap room) value 0 ⌝ }
 {
     if load < cap + room {
-        return 1;
+        return value;
     }
     0
 }
@@ -149,15 +149,15 @@ fn open_layers(w: &[u32], caps: usize, loads: usize, k: usize, room: u32) -> u32
     ensures { λ r. ⌜ r ≡ bitsUp (openIn (now (w .entry)) caps loads room) 0 k ⌝ }
 {
     let mut mask = 0u32;
-    let mut i = k;
-    while 0 < i {
-        i -= 1;
-        mask = 2 * mask + open_to(w[loads + i], w[caps + i], room);
+    let mut value = 1u32;
+    for i in 0..k {
+        mask += open_to(w[loads + i], w[caps + i], room, value);
+        value = 2 * value;
     }
     mask
 }
 
-// The legal layers of an edge: bit l - 1 is layer l. Eight layers are told as a constant, so that the loop over them has a known length.
+// The legal layers of an edge: bit l - 1 is layer l. Eight layers go in two fours, loops of a known length that become comparisons of four at once.
 pub fn legal(w: &[u32], g: Shape, edge: usize, limit: u32) -> u32
     requires { ⌜ Shaped g ⌝ }
     requires { ⌜ (edge < g .e) × (flatAt g ≤ length (now w)) × (limit ≤ mostNets) ⌝ }
@@ -169,7 +169,9 @@ pub fn legal(w: &[u32], g: Shape, edge: usize, limit: u32) -> u32
     let loads = layout::loads_at(g) + caps;
     let room = room_of(w[layout::demand_at(g) + edge], limit);
     if g.k == 8 {
-        return open_layers(w, caps, loads, 8, room);
+        let low = open_layers(w, caps, loads, 4, room);
+        let high = open_layers(w, caps + 4, loads + 4, 4, room);
+        return low + 16 * high;
     }
     open_layers(w, caps, loads, g.k, room)
 }
