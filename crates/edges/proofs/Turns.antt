@@ -16,6 +16,7 @@ use Rattle.model.specs.Job.{Pin}
 use Rattle.model.specs.Lists.{all, twice, has, bit}
 use Rattle.model.specs.Read.{Triple, edgeInside, edgeAt}
 use Rattle.model.specs.Tree.{ring}
+use Rattle.scan.specs.Inside.{false-true}
 use Rattle.theory.specs.congestion.Sums.{in-head}
 use Rattle.theory.specs.links.Reach.{loOf, hiOf}
 use Rattle.theory.specs.links.Tests.{twice-once}
@@ -30,9 +31,6 @@ use Rattle.edges.specs.Reading.{Reading, Few, Going, Shown, goesOn, Goes
 use Rattle.edges.specs.Steps.{counted-most, counted-some, marked-has, ring-then, reading-then}
 use Rattle.edges.specs.declared.Judged.{Judged}
 use Rattle.edges.specs.declared.Judged.the-variants.{Fine, Ring, Twice, Range}
-
-true-false : true ≡ false → ⊥
-true-false e = let y : _≡_ {A = ℕ} (bit true) (bit false) = ap bit e in omega (arith, y)
 
 -- ---- where nothing is marked any more
 
@@ -71,16 +69,16 @@ module _ (g : Shape) (ts : List Triple) (t : Triple) where
 
 pub after-stop : (g : Shape) (n : ℕ) (ps : List Pin) (w₀ : List ℕ) (ts : List Triple) (parts : ℕ) (w : List ℕ) (t : Triple) (j : Judged)
     → goesOn j ≡ false → edgeInside (g .w) (g .h) t ≡ true → Shown g n ps w₀ ts parts w j → Shown g n ps w₀ (ts ++ (t ∷ [])) parts w j
-after-stop g n ps w₀ ts parts w t Fine e i s = absurd (true-false e)
-after-stop g n ps w₀ ts parts w t Ring e i s = absurd (true-false e)
+after-stop g n ps w₀ ts parts w t Fine e i s = absurd (false-true (sym e))
+after-stop g n ps w₀ ts parts w t Ring e i s = absurd (false-true (sym e))
 after-stop g n ps w₀ ts parts w t Twice e i s = (all-in g ts t (s .0) i, still-twice g ts t (s .1))
 after-stop g n ps w₀ ts parts w t Range e i s = still-out g ts t s
 
 pub still-going : (j : Judged) → goesOn j ≡ true → GoesOn j
 still-going Fine e = tt
 still-going Ring e = tt
-still-going Twice e = absurd (true-false (sym e))
-still-going Range e = absurd (true-false (sym e))
+still-going Twice e = absurd (false-true e)
+still-going Range e = absurd (false-true e)
 
 -- ---- where the marks go on
 

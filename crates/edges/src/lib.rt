@@ -102,7 +102,7 @@ fn add_edge(w: &mut [u32], g: Shape, stamp: u32, v: Seen, x: usize, y: usize, d:
     ensures { λ _. ⌜ length (now (w .exit)) ≡ length (now (w .entry)) ⌝ }
 {
     let here = pins::tile_at(g, x, y);
-    let out = layout::way_out(g, here, d);
+    let out = ways::way_on(g, here, y, d);
     let there = out.tile;
     let edge = out.edge;
     let entries = v.entries + 1;

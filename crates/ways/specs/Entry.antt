@@ -27,6 +27,10 @@ startOf g t = tile (g .w) (t .x) (t .y)
 abbrev pub edgeOf : Shape → Triple → ℕ
 edgeOf g t = edgeAt (g .w) (g .h) t
 
+-- the row of a tile
+pub row-of : (w x y : ℕ) → x < w → (y * w + x) / w ≡ y
+row-of w x y h = div-eq-of-lt-le w (omega arith) (omega arith)
+
 pub record Placed (g : Shape) (t : Triple) : Type 0 where
   pub column : t .x < g .w
   pub row : t .y < g .h
@@ -65,7 +69,7 @@ module _ (g : Shape) (shaped : Shaped g) where
   placed-east : (x y : ℕ) → x + 1 < g .w → y < g .h → Placed g (record { x = x; y = y; third = zero })
   placed-east x y i j =
       let r = east-ends W H wide high x y (omega arith) j in
-      let q : (y * g .w + x) / g .w ≡ y = div-eq-of-lt-le (g .w) (omega arith) (omega arith) in
+      let q : (y * g .w + x) / g .w ≡ y = row-of (g .w) x y (omega arith) in
       let l : loOf W H (eastEdge W x y) ≡ tile W x y = ap (λ (f : ℕ → ℕ). f (eastEdge W x y)) (lo-is W H wide) ∙ r .1 in
       let u : hiOf W H (eastEdge W x y) ≡ tile W (suc x) y = ap (λ (f : ℕ → ℕ). f (eastEdge W x y)) (hi-is W H wide) ∙ r .2 in
       record {

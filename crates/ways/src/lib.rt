@@ -1,8 +1,12 @@
-// The edges of the net at hand, marked by tile: the way on where an edge starts, and the way back where it ends.
+// An edge as an entry names it: the tile that it leads to and its number. The edges of the net at hand, marked by tile: the way on where an edge starts, and
+// the way back where it ends.
+use layout::Shape;
+use layout::Way;
 use marks::Put;
 ghost use mathlib.Core.Path.{_≡_};
-ghost use Prim.Native.Nat.{_+_, _<_, _≤_};
+ghost use Prim.Native.Nat.{_+_, _/_, _<_, _≤_};
 ghost use lib.ListN.{length};
+ghost use Rattle.layout.specs.Shapes.{Shaped, wayOf};
 ghost use Rattle.marks.specs.Marks.{marksAfter};
 ghost use Rattle.ways.specs.Ends.{firstMark, endsOf, endsAfter};
 
@@ -10,6 +14,24 @@ ghost use Rattle.ways.specs.Ends.{firstMark, endsOf, endsAfter};
 pub enum Ends {
     Twice,
     New(usize),
+}
+
+// The way east, 0, or north, 1, out of the tile `here` in row y: what `layout::way_out` finds, without a division.
+pub fn way_on(g: Shape, here: usize, y: usize, d: usize) -> Way
+    requires { ⌜ Shaped g ⌝ }
+    requires { ⌜ (here < g .t) × (here / g .w ≡ y) × (d ≤ 1) ⌝ }
+    ensures { λ r. ⌜ r ≡ wayOf g here d ⌝ }
+{
+    if d == 0 {
+        return Way {
+            tile: here + 1,
+            edge: here - y,
+        };
+    }
+    Way {
+        tile: here + g.w,
+        edge: g.east + here,
+    }
 }
 
 // The way back, marked in the tile where an edge ends: 1 if that tile had no mark.

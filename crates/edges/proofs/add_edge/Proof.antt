@@ -3,7 +3,7 @@
 use mathlib.Core.Bool.{true}
 use mathlib.Core.List.{List}
 use mathlib.Core.Path.{_≡_, refl, sym, ap, _∙_}
-use Prim.Native.Nat.{ℕ, _+_, _-_, _≤_, _<_}
+use Prim.Native.Nat.{ℕ, _+_, _-_, _/_, _≤_, _<_}
 use native.Mathlib.Omega.{arith}
 use lib.ListN.{length, length-set}
 use borrow.Author.Needs.{needs}
@@ -14,7 +14,7 @@ use Rattle.layout.specs.declared.Way.{Way}
 use Rattle.model.specs.Read.{Triple, edgeInside}
 use Rattle.scan.specs.Pins.{triple}
 use Rattle.ways.specs.Ends.{endsOf, endsAfter}
-use Rattle.ways.specs.Entry.{startOf, placed}
+use Rattle.ways.specs.Entry.{startOf, placed, row-of}
 use Rattle.ways.specs.declared.Ends.the-variants.{New}
 use Rattle.edges.specs.Reading.{tilesOf}
 use Rattle.edges.specs.Steps.{kept-links}
@@ -24,7 +24,7 @@ use Rattle.edges.proofs.add_edge.Tie as tie
 
 -- ---- the edge
 
-module _ (k : tie.After-way-out) where
+module _ (k : tie.After-way-on) where
   abbrev start : tie.Start
   start = k .before .before .before
 
@@ -35,10 +35,10 @@ module _ (k : tie.After-way-out) where
   here = k .before .tile-at .result
 
   abbrev there : ℕ
-  there = k .way-out .result .tile
+  there = k .way-on .result .tile
 
   abbrev edge : ℕ
-  edge = k .way-out .result .edge
+  edge = k .way-on .result .edge
 
   is-way : start .args .d ≤ 1
   is-way = start .pre .1 .0 .3
@@ -50,10 +50,10 @@ module _ (k : tie.After-way-out) where
   here-is = k .before .tile-at .ensures .0
 
   there-is : there ≡ wayOf (start .args .g) here (start .args .d) .tile
-  there-is = ap (λ (z : Way). z .tile) (k .way-out .ensures)
+  there-is = ap (λ (z : Way). z .tile) (k .way-on .ensures)
 
   edge-is : edge ≡ wayOf (start .args .g) here (start .args .d) .edge
-  edge-is = ap (λ (z : Way). z .edge) (k .way-out .ensures)
+  edge-is = ap (λ (z : Way). z .edge) (k .way-on .ensures)
 
 tile-at-requires : tie.Need-tile-at-requires
 tile-at-requires c κs =
@@ -61,6 +61,14 @@ tile-at-requires c κs =
     let p = c .before .pre in
     let at = placed (x .g) (p .0) (triple (x .x) (x .y) (x .d)) (p .1 .0 .4) (p .1 .0 .3) in
     (p .0, (at .column, at .row))
+
+way-on-requires : tie.Need-way-on-requires
+way-on-requires c κs =
+    let x = c .before .before .args in
+    let p = c .before .before .pre in
+    let at = placed (x .g) (p .0) (triple (x .x) (x .y) (x .d)) (p .1 .0 .4) (p .1 .0 .3) in
+    let h = c .tile-at .ensures in
+    (p .0, (h .1, ap (λ (t : ℕ). t / x .g .w) (h .0) ∙ row-of (x .g .w) (x .x) (x .y) (at .column), p .1 .0 .3))
 
 put-marks-requires : tie.Need-put-marks-requires
 put-marks-requires c κs =
@@ -81,7 +89,7 @@ returns-2 c =
 -- ---- a new edge
 
 module _ (q : tie.After-known-told) where
-  abbrev out : tie.After-way-out
+  abbrev out : tie.After-way-on
   out = q .before .before .before .before .before .before .before .before
 
   -- how many of its tiles are new
@@ -161,7 +169,7 @@ pub add-edge-spec : {M : Type 1} → statement M
 add-edge-spec =
     tie.close
     (tie.spec
-    tile-at-requires (λ c κs. search needs) (λ c. search needs) (λ c. search needs) put-marks-requires (λ c. search needs) (λ c. search needs)
+    tile-at-requires way-on-requires (λ c. search needs) (λ c. search needs) put-marks-requires (λ c. search needs) (λ c. search needs)
     put-demand-requires
     (λ c. omega (arith, few (c .before .before .before .before .before), start (out (c .before .before .before .before .before)) .pre .1 .1 .0 .few-parts))
     put-join-requires
