@@ -1,15 +1,15 @@
 -- What branches cost that meet, two by two, is the least cost over combinations, for a tile with two or three branches and no pin.
 -- Assumes nothing.
 use mathlib.Core.Path.{_≡_, refl, sym, ap, _∙_, subst}
-use mathlib.Core.List.{List, [], _∷_}
+use mathlib.Core.List.{List, [], _∷_, _++_}
 use mathlib.Core.Logic.{_⊎_, inl, inr}
 use Prim.Native.Nat.{ℕ, suc, _+_, _-_, _*_, _≤_, _<_, min, max}
 use native.Mathlib.Omega.{arith}
 use lib.ListN.{getD, length}
 use Rattle.theory.specs.congestion.Sums.{In, in-head, in-tail, lt-or-ge}
 use Rattle.theory.specs.engine.Branches.{below}
-use Rattle.theory.specs.engine.Span.{span, Covers, span-le, span-hit, covers-cons}
-use Rattle.costs.specs.Mask.{withLayer, maskOf, spanOf, set-none, set-with, mask-price}
+use Rattle.theory.specs.engine.Span.{span, Covers, span-le, span-hit, covers-cons, covers-append, covers-right}
+use Rattle.costs.specs.Mask.{has, withLayer, maskOf, spanOf, IsSet, set-none, set-with, mask-price}
 use Rattle.costs.specs.Rows.{illegalCost, rowAt, LeastCost}
 use Rattle.costs.specs.Combinations.{covers-none}
 use Rattle.costs.specs.Sweeps.{swept, met, thirdMet, pairMet, tripleMet}
@@ -112,29 +112,28 @@ pub record PairHit (g h : ℕ → ℕ) (K l v : ℕ) : Type 0 where
   pub two : Inside from upto b
   pub cost : g a + h b + (upto - from) ≤ v
 
-module _ (g h : ℕ → ℕ) (K : ℕ) where
-  -- they meet at the middle one of the three layers
-  pub pair-low : (l a b lo hi : ℕ) → hi < K → Inside lo hi l → Inside lo hi a → Inside lo hi b → pairMet g h K l ≤ g a + h b + (hi - lo)
-  pair-low l a b lo hi deep il ia ib = go (lt-or-ge l a) (lt-or-ge a b) (lt-or-ge l b)
-    where
-      at : (t : ℕ) → t < K → apart t l + (apart a t + apart b t) ≤ hi - lo → pairMet g h K l ≤ g a + h b + (hi - lo)
-      at t p q =
-          omega (
-            arith,
-            met-low (swept g K) (swept h K) K l (omega arith) t p,
-            swept-low g K t p a (omega arith),
-            swept-low h K t p b (omega arith),
-          )
+-- they meet at the middle one of the three layers
+middle : (x y : ℕ → ℕ) (K l a b ca cb lo hi : ℕ) → hi < K → Inside lo hi l → Inside lo hi a → Inside lo hi b → ((t : ℕ) → t < K → x t ≤ ca + apart a t)
+    → ((t : ℕ) → t < K → y t ≤ cb + apart b t) → met x y K l ≤ ca + cb + (hi - lo)
+middle x y K l a b ca cb lo hi deep il ia ib hx hy = go (lt-or-ge l a) (lt-or-ge a b) (lt-or-ge l b)
+  where
+    at : (t : ℕ) → t < K → apart t l + (apart a t + apart b t) ≤ hi - lo → met x y K l ≤ ca + cb + (hi - lo)
+    at t p q = omega (arith, met-low x y K l (omega arith) t p, hx t p, hy t p)
 
-      go : (l < a) ⊎ (a ≤ l) → (a < b) ⊎ (b ≤ a) → (l < b) ⊎ (b ≤ l) → pairMet g h K l ≤ g a + h b + (hi - lo)
-      go (inl p) (inl q) (inl r) = at a (omega arith) (omega arith)
-      go (inl p) (inl q) (inr r) = at a (omega arith) (omega arith)
-      go (inl p) (inr q) (inl r) = at b (omega arith) (omega arith)
-      go (inl p) (inr q) (inr r) = at l (omega arith) (omega arith)
-      go (inr p) (inl q) (inl r) = at l (omega arith) (omega arith)
-      go (inr p) (inl q) (inr r) = at b (omega arith) (omega arith)
-      go (inr p) (inr q) (inl r) = at a (omega arith) (omega arith)
-      go (inr p) (inr q) (inr r) = at a (omega arith) (omega arith)
+    go : (l < a) ⊎ (a ≤ l) → (a < b) ⊎ (b ≤ a) → (l < b) ⊎ (b ≤ l) → met x y K l ≤ ca + cb + (hi - lo)
+    go (inl p) (inl q) (inl r) = at a (omega arith) (omega arith)
+    go (inl p) (inl q) (inr r) = at a (omega arith) (omega arith)
+    go (inl p) (inr q) (inl r) = at b (omega arith) (omega arith)
+    go (inl p) (inr q) (inr r) = at l (omega arith) (omega arith)
+    go (inr p) (inl q) (inl r) = at l (omega arith) (omega arith)
+    go (inr p) (inl q) (inr r) = at b (omega arith) (omega arith)
+    go (inr p) (inr q) (inl r) = at a (omega arith) (omega arith)
+    go (inr p) (inr q) (inr r) = at a (omega arith) (omega arith)
+
+module _ (g h : ℕ → ℕ) (K : ℕ) where
+  pub pair-low : (l a b lo hi : ℕ) → hi < K → Inside lo hi l → Inside lo hi a → Inside lo hi b → pairMet g h K l ≤ g a + h b + (hi - lo)
+  pair-low l a b lo hi deep il ia ib =
+      middle (swept g K) (swept h K) K l a b (g a) (h b) lo hi deep il ia ib (λ t p. swept-low g K t p a (omega arith)) (λ t p. swept-low h K t p b (omega arith))
 
   pub pair-hit : (l : ℕ) → l < K → pairMet g h K l < illegalCost → PairHit g h K l (pairMet g h K l)
   pair-hit l i e =
@@ -343,6 +342,41 @@ module _ (g h i : ℕ → ℕ) (K l : ℕ) (inside : l < K) where
       go (inr p) (inr q) (inr r) (inr x) y (inl z) = low-b (omega arith, omega arith) (omega arith, omega arith)
       go (inr p) (inr q) (inr r) (inr x) y (inr z) = low-c (omega arith, omega arith) (omega arith, omega arith)
 
+-- ---- the price of a combination, where the mask `base` is the set S of the layer above and the pins
+
+module _ (K base : ℕ) (S : List ℕ) (deep : K ≤ 8) (some : 1 ≤ K) (set : IsSet base S) (covers-S : Covers 1 K S) where
+  price : (z : List ℕ) → Covers 1 K z → spanOf (maskOf base z) ≡ span (λ t. t) (S ++ z)
+  price z c = mask-price base S z (λ x i. (c x i .0, omega (arith, c x i .1))) set
+
+  -- the ends of a combination's layers and of S
+  pub record Held (z : List ℕ) : Type 0 where
+    pub from : ℕ
+    pub upto : ℕ
+    pub inner : upto < K
+    pub held : (a : ℕ) → In (suc a) (S ++ z) → Inside from upto a
+    pub cost : upto - from ≡ spanOf (maskOf base z)
+
+  ends : (z : List ℕ) → Covers 1 K z → Held z
+  ends z c = let s = span-hit (λ t. t) 1 K some (S ++ z) (covers-append 1 K S z covers-S c) in finish (s .0) (s .1) (s .2) (s .3)
+    where
+      finish : (lo hi : ℕ) → (1 ≤ lo) × (lo ≤ hi) × (hi ≤ K) × Covers lo hi (S ++ z) → span (λ t. t) (S ++ z) ≡ hi - lo → Held z
+      finish lo hi r e = record {
+        from = lo - 1;
+        upto = hi - 1;
+        inner = omega (arith, r .0, r .1, r .2);
+        held = λ a i. let q = r .3 (suc a) i in (omega (arith, q .0, r .0), omega (arith, q .1));
+        cost = less lo hi (r .0) ∙ sym e ∙ sym (price z c);
+      }
+        where
+          less : (x y : ℕ) → 1 ≤ x → (y - 1) - (x - 1) ≡ y - x
+          less x y p = omega arith
+
+  -- an interval that holds a combination's layers and S is no cheaper
+  over : (z : List ℕ) (lo hi : ℕ) → hi < K → Covers (suc lo) (suc hi) (S ++ z) → Covers 1 K z × (spanOf (maskOf base z) ≤ hi - lo)
+  over z lo hi d c =
+      let c′ : Covers 1 K z = (λ x i. let r = covers-right (suc lo) (suc hi) S z c x i in (omega (arith, r .0), omega (arith, r .1))) in
+      (c′, omega (arith, price z c′, span-le (λ t. t) (λ a b g. g) (suc lo) (suc hi) (S ++ z) c))
+
 -- ---- the law
 
 module _ (w : List ℕ) (o first K l : ℕ) (deep : K ≤ 8) (inside : l < K) where
@@ -365,45 +399,18 @@ module _ (w : List ℕ) (o first K l : ℕ) (deep : K ≤ 8) (inside : l < K) wh
   three-at : (a a′ : ℕ) → suc a ≡ a′ → three′ a ≡ rowAt w o (suc (suc first)) a′
   three-at a a′ e = let i : o + 8 * first + 16 + a ≡ o + 8 * suc (suc first) + (a′ - 1) = omega arith in ap (λ (t : ℕ). getD w t 0) i
 
-  price : (z : List ℕ) → Covers 1 K z → spanOf (maskOf (withLayer 0 (suc l)) z) ≡ span (λ t. t) (suc l ∷ z)
-  price z c =
-      mask-price (withLayer 0 (suc l)) (suc l ∷ []) z (λ x i. (c x i .0, omega (arith, c x i .1)))
-      (set-with 0 (suc l) (omega arith) (omega arith) (omega arith) [] set-none)
+  -- without pins
+  abbrev alone : ℕ
+  alone = withLayer 0 (suc l)
 
-  -- the ends of a combination's layers and of the layer above
-  pub record Held (z : List ℕ) : Type 0 where
-    pub from : ℕ
-    pub upto : ℕ
-    pub inner : upto < K
-    pub above : Inside from upto l
-    pub held : (a : ℕ) → In (suc a) z → Inside from upto a
-    pub cost : upto - from ≡ spanOf (maskOf (withLayer 0 (suc l)) z)
+  alone-set : IsSet alone (suc l ∷ [])
+  alone-set = set-with 0 (suc l) (omega arith) (omega arith) (omega arith) [] set-none
 
-  held : (z : List ℕ) → Covers 1 K z → Held z
-  held z c =
-      let s = span-hit (λ t. t) 1 K (omega arith) (suc l ∷ z) (covers-cons 1 K (suc l) z (omega arith) (omega arith) c) in
-      finish (s .0) (s .1) (s .2) (s .3)
-    where
-      finish : (lo hi : ℕ) → (1 ≤ lo) × (lo ≤ hi) × (hi ≤ K) × Covers lo hi (suc l ∷ z) → span (λ t. t) (suc l ∷ z) ≡ hi - lo → Held z
-      finish lo hi r e =
-          let p = r .3 (suc l) (in-head (suc l) z) in
-          record {
-            from = lo - 1;
-            upto = hi - 1;
-            inner = omega (arith, r .0, r .1, r .2);
-            above = (omega (arith, p .0, r .0), omega (arith, p .1));
-            held = λ a i. let q = r .3 (suc a) (in-tail (suc a) (suc l) z i) in (omega (arith, q .0, r .0), omega (arith, q .1));
-            cost = less lo hi (r .0) ∙ sym e ∙ sym (price z c);
-          }
-        where
-          less : (x y : ℕ) → 1 ≤ x → (y - 1) - (x - 1) ≡ y - x
-          less x y p = omega arith
+  alone-covers : Covers 1 K (suc l ∷ [])
+  alone-covers = covers-cons 1 K (suc l) [] (omega arith) (omega arith) (covers-none 1 K)
 
-  -- an interval that holds a combination's layers and the layer above is no cheaper
-  over : (z : List ℕ) (lo hi : ℕ) → hi < K → Inside lo hi l → Covers (suc lo) (suc hi) z → Covers 1 K z × (spanOf (maskOf (withLayer 0 (suc l)) z) ≤ hi - lo)
-  over z lo hi d il c =
-      let c′ : Covers 1 K z = (λ x i. let r = c x i in (omega (arith, r .0), omega (arith, r .1))) in
-      (c′, omega (arith, price z c′, span-le (λ t. t) (λ a b g. g) (suc lo) (suc hi) (suc l ∷ z) (covers-cons (suc lo) (suc hi) (suc l) z (omega arith) (omega arith) c)))
+  held : (z : List ℕ) → Covers 1 K z → Held K alone (suc l ∷ []) deep (omega arith) alone-set alone-covers z
+  held = ends K alone (suc l ∷ []) deep (omega arith) alone-set alone-covers
 
   pub pair-least : LeastCost w o first 2 K (withLayer 0 (suc l)) (pairMet one two K l)
   pair-least = by-lists w o first 2 K (withLayer 0 (suc l)) (pairMet one two K l) (omega arith) (omega arith) low hit (met-top (swept one K) (swept two K) K l inside)
@@ -422,12 +429,12 @@ module _ (w : List ℕ) (o first K l : ℕ) (deep : K ≤ 8) (inside : l < K) wh
           eb : suc (b - 1) ≡ b
           eb = omega (arith, c b (in-tail b a (b ∷ []) (in-head b [])) .0)
 
-          finish : Held (a ∷ b ∷ []) → pairMet one two K l ≤ spanOf (maskOf (withLayer 0 (suc l)) (a ∷ b ∷ [])) + below (rowAt w o) first (a ∷ b ∷ [])
+          finish : Held K alone (suc l ∷ []) deep (omega arith) alone-set alone-covers (a ∷ b ∷ []) → pairMet one two K l ≤ spanOf (maskOf (withLayer 0 (suc l)) (a ∷ b ∷ [])) + below (rowAt w o) first (a ∷ b ∷ [])
           finish h =
               sum (pairMet one two K l) (one (a - 1)) (two (b - 1)) (rowAt w o first a) (rowAt w o (suc first) b) (h .upto - h .from) (spanOf (maskOf (withLayer 0 (suc l)) (a ∷ b ∷ [])))
-              (pair-low one two K l (a - 1) (b - 1) (h .from) (h .upto) (h .inner) (h .above)
-              (h .held (a - 1) (subst (λ (x : ℕ). In x (a ∷ b ∷ [])) (sym ea) (in-head a (b ∷ []))))
-              (h .held (b - 1) (subst (λ (x : ℕ). In x (a ∷ b ∷ [])) (sym eb) (in-tail b a (b ∷ []) (in-head b [])))))
+              (pair-low one two K l (a - 1) (b - 1) (h .from) (h .upto) (h .inner) (h .held l (in-head (suc l) (a ∷ b ∷ [])))
+              (h .held (a - 1) (in-tail (suc (a - 1)) (suc l) (a ∷ b ∷ []) (subst (λ (x : ℕ). In x (a ∷ b ∷ [])) (sym ea) (in-head a (b ∷ [])))))
+              (h .held (b - 1) (in-tail (suc (b - 1)) (suc l) (a ∷ b ∷ []) (subst (λ (x : ℕ). In x (a ∷ b ∷ [])) (sym eb) (in-tail b a (b ∷ []) (in-head b []))))))
               (one-at (a - 1) a ea) (two-at (b - 1) b eb) (h .cost)
       low (a ∷ b ∷ c ∷ z) n d = absurd (omega arith)
 
@@ -440,10 +447,11 @@ module _ (w : List ℕ) (o first K l : ℕ) (deep : K ≤ 8) (inside : l < K) wh
           finish : PairHit one two K l (pairMet one two K l) → (z : List ℕ) × (length z ≡ 2) × Covers 1 K z × (spanOf (maskOf (withLayer 0 (suc l)) z) + below (rowAt w o) first z ≡ pairMet one two K l)
           finish h =
               let z : List ℕ = suc (h .a) ∷ suc (h .b) ∷ [] in
-              let c : Covers (suc (h .from)) (suc (h .upto)) z =
-              covers-cons (suc (h .from)) (suc (h .upto)) (suc (h .a)) (suc (h .b) ∷ []) (omega (arith, h .one .0)) (omega (arith, h .one .1))
-              (covers-cons (suc (h .from)) (suc (h .upto)) (suc (h .b)) [] (omega (arith, h .two .0)) (omega (arith, h .two .1)) (covers-none (suc (h .from)) (suc (h .upto)))) in
-              let u = over z (h .from) (h .upto) (h .deep) (h .above) c in (
+              let c : Covers (suc (h .from)) (suc (h .upto)) (suc l ∷ z) =
+              covers-cons (suc (h .from)) (suc (h .upto)) (suc l) z (omega (arith, h .above .0)) (omega (arith, h .above .1))
+              (covers-cons (suc (h .from)) (suc (h .upto)) (suc (h .a)) (suc (h .b) ∷ []) (omega (arith, h .one .0)) (omega (arith, h .one .1))
+              (covers-cons (suc (h .from)) (suc (h .upto)) (suc (h .b)) [] (omega (arith, h .two .0)) (omega (arith, h .two .1)) (covers-none (suc (h .from)) (suc (h .upto))))) in
+              let u = over K alone (suc l ∷ []) deep (omega arith) alone-set alone-covers z (h .from) (h .upto) (h .deep) c in (
                 z,
                 refl,
                 u .0,
@@ -481,14 +489,14 @@ module _ (w : List ℕ) (o first K l : ℕ) (deep : K ≤ 8) (inside : l < K) wh
           ed : suc (d - 1) ≡ d
           ed = omega (arith, c d id .0)
 
-          finish : Held (a ∷ b ∷ d ∷ []) → tripleMet one two three′ K l ≤ spanOf (maskOf (withLayer 0 (suc l)) (a ∷ b ∷ d ∷ [])) + below (rowAt w o) first (a ∷ b ∷ d ∷ [])
+          finish : Held K alone (suc l ∷ []) deep (omega arith) alone-set alone-covers (a ∷ b ∷ d ∷ []) → tripleMet one two three′ K l ≤ spanOf (maskOf (withLayer 0 (suc l)) (a ∷ b ∷ d ∷ [])) + below (rowAt w o) first (a ∷ b ∷ d ∷ [])
           finish h =
               sum (tripleMet one two three′ K l) (one (a - 1)) (two (b - 1)) (three′ (d - 1)) (rowAt w o first a) (rowAt w o (suc first) b) (rowAt w o (suc (suc first)) d) (h .upto - h .from)
               (spanOf (maskOf (withLayer 0 (suc l)) (a ∷ b ∷ d ∷ [])))
-              (triple-low one two three′ K l inside (a - 1) (b - 1) (d - 1) (h .from) (h .upto) (h .inner) (h .above)
-              (h .held (a - 1) (subst (λ (x : ℕ). In x (a ∷ b ∷ d ∷ [])) (sym ea) ia))
-              (h .held (b - 1) (subst (λ (x : ℕ). In x (a ∷ b ∷ d ∷ [])) (sym eb) ib))
-              (h .held (d - 1) (subst (λ (x : ℕ). In x (a ∷ b ∷ d ∷ [])) (sym ed) id)))
+              (triple-low one two three′ K l inside (a - 1) (b - 1) (d - 1) (h .from) (h .upto) (h .inner) (h .held l (in-head (suc l) (a ∷ b ∷ d ∷ [])))
+              (h .held (a - 1) (in-tail (suc (a - 1)) (suc l) (a ∷ b ∷ d ∷ []) (subst (λ (x : ℕ). In x (a ∷ b ∷ d ∷ [])) (sym ea) ia)))
+              (h .held (b - 1) (in-tail (suc (b - 1)) (suc l) (a ∷ b ∷ d ∷ []) (subst (λ (x : ℕ). In x (a ∷ b ∷ d ∷ [])) (sym eb) ib)))
+              (h .held (d - 1) (in-tail (suc (d - 1)) (suc l) (a ∷ b ∷ d ∷ []) (subst (λ (x : ℕ). In x (a ∷ b ∷ d ∷ [])) (sym ed) id))))
               (one-at (a - 1) a ea) (two-at (b - 1) b eb) (three-at (d - 1) d ed) (h .cost)
       low (a ∷ b ∷ c ∷ d ∷ z) n e = absurd (omega arith)
 
@@ -502,11 +510,12 @@ module _ (w : List ℕ) (o first K l : ℕ) (deep : K ≤ 8) (inside : l < K) wh
               → (z : List ℕ) × (length z ≡ 3) × Covers 1 K z × (spanOf (maskOf (withLayer 0 (suc l)) z) + below (rowAt w o) first z ≡ tripleMet one two three′ K l)
           finish h =
               let z : List ℕ = suc (h .a) ∷ suc (h .b) ∷ suc (h .c) ∷ [] in
-              let c : Covers (suc (h .from)) (suc (h .upto)) z =
-              covers-cons (suc (h .from)) (suc (h .upto)) (suc (h .a)) (suc (h .b) ∷ suc (h .c) ∷ []) (omega (arith, h .one .0)) (omega (arith, h .one .1))
+              let c : Covers (suc (h .from)) (suc (h .upto)) (suc l ∷ z) =
+              covers-cons (suc (h .from)) (suc (h .upto)) (suc l) z (omega (arith, h .above .0)) (omega (arith, h .above .1))
+              (covers-cons (suc (h .from)) (suc (h .upto)) (suc (h .a)) (suc (h .b) ∷ suc (h .c) ∷ []) (omega (arith, h .one .0)) (omega (arith, h .one .1))
               (covers-cons (suc (h .from)) (suc (h .upto)) (suc (h .b)) (suc (h .c) ∷ []) (omega (arith, h .two .0)) (omega (arith, h .two .1))
-              (covers-cons (suc (h .from)) (suc (h .upto)) (suc (h .c)) [] (omega (arith, h .three .0)) (omega (arith, h .three .1)) (covers-none (suc (h .from)) (suc (h .upto))))) in
-              let u = over z (h .from) (h .upto) (h .deep) (h .above) c in (
+              (covers-cons (suc (h .from)) (suc (h .upto)) (suc (h .c)) [] (omega (arith, h .three .0)) (omega (arith, h .three .1)) (covers-none (suc (h .from)) (suc (h .upto)))))) in
+              let u = over K alone (suc l ∷ []) deep (omega arith) alone-set alone-covers z (h .from) (h .upto) (h .deep) c in (
                 z,
                 refl,
                 u .0,
@@ -514,3 +523,79 @@ module _ (w : List ℕ) (o first K l : ℕ) (deep : K ≤ 8) (inside : l < K) wh
                     (spanOf (maskOf (withLayer 0 (suc l)) z)) (h .cost)
                     (one-at (h .a) (suc (h .a)) refl) (two-at (h .b) (suc (h .b)) refl) (three-at (h .c) (suc (h .c)) refl) (u .1) (low z refl (u .0)),
               )
+
+-- ---- one branch, and pins that are all on one layer p
+
+module _ (w : List ℕ) (o first K l pins p : ℕ) (deep : K ≤ 8) (inside : l < K) (below-K : p < K) (pin : IsSet pins (suc p ∷ [])) where
+  abbrev row : ℕ → ℕ
+  row t = getD w (o + 8 * first + t) 0
+
+  abbrev leaf : ℕ → ℕ
+  leaf t = spanOf (withLayer pins (suc t))
+
+  abbrev v : ℕ
+  v = met (swept row K) leaf K l
+
+  both-set : (t : ℕ) → t < K → IsSet (withLayer pins (suc t)) (suc t ∷ suc p ∷ [])
+  both-set t q = set-with pins (suc t) (pin .small) (omega arith) (omega arith) (suc p ∷ []) pin
+
+  both-covers : (t : ℕ) → t < K → Covers 1 K (suc t ∷ suc p ∷ [])
+  both-covers t q = covers-cons 1 K (suc t) (suc p ∷ []) (omega arith) (omega arith) (covers-cons 1 K (suc p) [] (omega arith) (omega arith) (covers-none 1 K))
+
+  leaf-is : (t : ℕ) → t < K → leaf t ≡ apart p t
+  unfolding span
+  leaf-is t q = omega (arith, price K (withLayer pins (suc t)) (suc t ∷ suc p ∷ []) deep (omega arith) (both-set t q) (both-covers t q) [] (covers-none 1 K))
+
+  pub pin-least : LeastCost w o first 1 K (withLayer pins (suc l)) v
+  pin-least = by-lists w o first 1 K (withLayer pins (suc l)) v (omega arith) (omega arith) low hit (met-top (swept row K) leaf K l inside)
+    where
+      sum : (u x a d c : ℕ) → u ≤ x + 0 + d → x ≡ a → d ≡ c → u ≤ c + (a + 0)
+      sum u x a d c h e₁ e₂ = omega (arith, h, e₁, e₂)
+
+      low : (z : List ℕ) → length z ≡ 1 → Covers 1 K z → v ≤ spanOf (maskOf (withLayer pins (suc l)) z) + below (rowAt w o) first z
+      low [] n c = absurd (omega arith)
+      low (a ∷ []) n c = finish (ends K (withLayer pins (suc l)) (suc l ∷ suc p ∷ []) deep (omega arith) (both-set l inside) (both-covers l inside) (a ∷ []) c)
+        where
+          ea : suc (a - 1) ≡ a
+          ea = omega (arith, c a (in-head a []) .0)
+
+          finish : Held K (withLayer pins (suc l)) (suc l ∷ suc p ∷ []) deep (omega arith) (both-set l inside) (both-covers l inside) (a ∷ [])
+              → v ≤ spanOf (maskOf (withLayer pins (suc l)) (a ∷ [])) + below (rowAt w o) first (a ∷ [])
+          finish h =
+              let ia = h .held (a - 1) (in-tail (suc (a - 1)) (suc l) (suc p ∷ a ∷ []) (in-tail (suc (a - 1)) (suc p) (a ∷ []) (subst (λ (x : ℕ). In x (a ∷ [])) (sym ea) (in-head a [])))) in
+              sum v (row (a - 1)) (rowAt w o first a) (h .upto - h .from) (spanOf (maskOf (withLayer pins (suc l)) (a ∷ [])))
+              (middle (swept row K) leaf K l (a - 1) p (row (a - 1)) 0 (h .from) (h .upto) (h .inner) (h .held l (in-head (suc l) (suc p ∷ a ∷ []))) ia
+              (h .held p (in-tail (suc p) (suc l) (suc p ∷ a ∷ []) (in-head (suc p) (a ∷ []))))
+              (λ t q. swept-low row K t q (a - 1) (within-K (a - 1) (h .from) (h .upto) ia (h .inner))) (λ t q. omega (arith, leaf-is t q)))
+              (one-at w o first K l deep inside (a - 1) a ea) (h .cost)
+            where
+              within-K : (x lo hi : ℕ) → Inside lo hi x → hi < K → x < K
+              within-K x lo hi q r = omega arith
+      low (a ∷ b ∷ z) n c = absurd (omega arith)
+
+      total : (u x a d c : ℕ) → x + 0 + d ≤ u → x ≡ a → c ≤ d → u ≤ c + (a + 0) → c + (a + 0) ≡ u
+      total u x a d c h e q r = omega (arith, h, e, q, r)
+
+      hit : v < illegalCost → (z : List ℕ) × (length z ≡ 1) × Covers 1 K z × (spanOf (maskOf (withLayer pins (suc l)) z) + below (rowAt w o) first z ≡ v)
+      hit e =
+          let m = met-hit (swept row K) leaf K l inside e in
+          let r = swept-hit row K (m .0) (m .1) (omega (arith, m .2, e)) in
+          finish (m .0) (r .0) (swept row K (m .0)) (leaf (m .0)) (m .1) (r .1) (m .2) (r .2) (leaf-is (m .0) (m .1))
+        where
+          last : (a lo hi : ℕ) → hi < K → Inside lo hi a → Inside lo hi p → Inside lo hi l → row a + 0 + (hi - lo) ≤ v
+              → (z : List ℕ) × (length z ≡ 1) × Covers 1 K z × (spanOf (maskOf (withLayer pins (suc l)) z) + below (rowAt w o) first z ≡ v)
+          last a lo hi d ia ip il h =
+              let u = over K (withLayer pins (suc l)) (suc l ∷ suc p ∷ []) deep (omega arith) (both-set l inside) (both-covers l inside) (suc a ∷ []) lo hi d
+              (covers-cons (suc lo) (suc hi) (suc l) (suc p ∷ suc a ∷ []) (omega (arith, il .0)) (omega (arith, il .1))
+              (covers-cons (suc lo) (suc hi) (suc p) (suc a ∷ []) (omega (arith, ip .0)) (omega (arith, ip .1))
+              (covers-cons (suc lo) (suc hi) (suc a) [] (omega (arith, ia .0)) (omega (arith, ia .1)) (covers-none (suc lo) (suc hi))))) in
+              (suc a ∷ [], refl, u .0, total v (row a) (rowAt w o first (suc a)) (hi - lo) (spanOf (maskOf (withLayer pins (suc l)) (suc a ∷ []))) h (one-at w o first K l deep inside a (suc a) refl) (u .1) (low (suc a ∷ []) refl (u .0)))
+
+          finish : (t a x y : ℕ) → t < K → a < K → x + y + apart t l ≡ v → row a + apart a t ≡ x → y ≡ apart p t
+              → (z : List ℕ) × (length z ≡ 1) × Covers 1 K z × (spanOf (maskOf (withLayer pins (suc l)) z) + below (rowAt w o) first z ≡ v)
+          finish t a x y q r ev ea ey =
+              let s = three t a p l K q r below-K inside in
+              last a (s .0) (s .1) (s .2) (s .3) (s .4) (s .5) (pair-price (row a) 0 x y v (apart a t) (apart p t) (apart t l) (s .1 - s .0) (s .6) ev ea (zero-plus (apart p t) y ey))
+            where
+              zero-plus : (d y : ℕ) → y ≡ d → 0 + d ≡ y
+              zero-plus d y e = omega arith

@@ -1,7 +1,7 @@
 -- The loops that fill eight numbers, one number at a time.
 -- Assumes nothing.
 use mathlib.Core.Path.{_≡_, refl, sym, ap, ap₂, _∙_, subst}
-use mathlib.Core.List.{List}
+use mathlib.Core.List.{List, [], _∷_}
 use mathlib.Core.Bool.{Bool, true, false, cond}
 use mathlib.Core.Logic.{_⊎_, inl, inr, ⊎-elim, _≢_}
 use Prim.Native.Nat.{ℕ, zero, suc, _+_, _-_, _*_, _≤_, _<_, min}
@@ -11,11 +11,13 @@ use lib.Dec.{T, leb, leb→le, le→leb}
 use lib.ListN.{getD, length, set, length-set}
 use lib.Seq.{getD-set-same, getD-set-other}
 use Rattle.model.specs.Lists.{upFrom}
-use Rattle.theory.specs.congestion.Sums.{lt-or-ge}
+use Rattle.theory.specs.congestion.Sums.{lt-or-ge, in-head}
+use Rattle.theory.specs.engine.Span.{covers-cons}
 use Rattle.theory.specs.engine.Interval.{leastIn, least-in-top}
-use Rattle.costs.specs.Mask.{has, withLayer, spanOf, top, bottom, no-layer, Ends, ends-of}
+use Rattle.costs.specs.Mask.{has, withLayer, spanOf, IsSet, with-small, span-le-7, top, bottom, no-layer, Ends, ends-of}
 use Rattle.costs.specs.Rows.{illegalCost, Eight, LayerMask}
 use Rattle.costs.specs.Intervals.{leastOver, within, branchSum, interval, leastEnd, around, Taken, PinEnds}
+use Rattle.costs.specs.Combinations.{covers-none}
 use Rattle.costs.specs.Sweeps.{sweptUp, sweptDown, swept, met, thirdMet, Small}
 use Rattle.costs.proofs.Runs.{run-more, run-same}
 use Rattle.costs.proofs.Around.{over-top, sum-top}
@@ -278,6 +280,9 @@ triple-list x y z a b d yz xz xy s₁ s₂ s₃ r pa pb pd pyz pxz pxy p₁ p₂
 pub leaf-none : (pins : ℕ) (c : List ℕ) → pins ≡ 0 → length c ≡ 8 → ((b : ℕ) → b < 8 → getD c b 0 ≡ 0) → Eight c (λ l. spanOf (withLayer pins (suc l))) 0 8
 leaf-none pins c e n h = record { long = n; at = λ b p q. rw e (h b q ∙ sym (one-span (suc b) (omega arith, omega arith))) }
 
+pub small-leaf : (pins : ℕ) (r : List ℕ) → pins < 256 → Eight r (λ l. spanOf (withLayer pins (suc l))) 0 8 → Small r
+small-leaf pins r h p l k = omega (arith, p .at l (omega arith) k, span-le-7 (withLayer pins (suc l)) (with-small pins (suc l) h (omega arith) (omega arith)))
+
 -- ---- the ends that the intervals of a tile can have
 
 pub ends-none : (K pins : ℕ) → 1 ≤ K → pins ≡ 0 → PinEnds K pins K 0
@@ -307,3 +312,17 @@ ends-some K pins starts high some deep mask es eh = finish (ends-of pins some (m
           starts-at = inr has-low;
           ends-at = inr has-high;
         }
+
+-- pins whose lowest layer is their highest are one layer
+pub ends-one : (pins starts high : ℕ) → LayerMask 8 pins → PinEnds 8 pins starts high → starts ≡ high + 1 → IsSet pins (suc high ∷ [])
+ends-one pins starts high mask ends e = record {
+  small = mask .small;
+  covers = covers-cons 1 8 (suc high) [] (omega arith) (omega (arith, ends .top)) (covers-none 1 8);
+  into = λ l p q t. let r = ends .low l p q t in let i : l ≡ suc high = omega (arith, r .0, r .1, e) in rw i (in-head (suc high) []);
+  back = λ l i. let c = covers-cons (suc high) (suc high) (suc high) [] (omega arith) (omega arith) (covers-none (suc high) (suc high)) l i in let j : l ≡ suc high = omega (arith, c .0, c .1) in rw j (here (ends .starts-at) (ends .ends-at));
+}
+  where
+    here : (starts ≡ 8) ⊎ T (has pins starts) → (high ≡ 0) ⊎ T (has pins (suc high)) → T (has pins (suc high))
+    here (inr t) z = let i : starts ≡ suc high = omega arith in subst (λ (x : ℕ). T (has pins x)) i t
+    here (inl s) (inr t) = t
+    here (inl s) (inl t) = absurd (omega (arith, e, s, t))

@@ -8,10 +8,11 @@ use lib.ListN.{getD}
 use Rattle.costs.specs.Mask.{withLayer, spanOf}
 use Rattle.costs.specs.Rows.{Eight, LeastCost, TileCosts, LayerMask}
 use Rattle.costs.specs.Intervals.{around, PinEnds}
-use Rattle.costs.specs.Sweeps.{swept, pairMet, tripleMet}
+use Rattle.costs.specs.Sweeps.{swept, met, pairMet, tripleMet}
 use Rattle.costs.proofs.Around.{around-least}
 use Rattle.costs.proofs.Swept.{swept-least, leaf-least}
-use Rattle.costs.proofs.Joined.{pair-least, triple-least}
+use Rattle.costs.proofs.Joined.{pair-least, triple-least, pin-least}
+use Rattle.costs.proofs.Steps.{ends-one}
 
 -- by layers from 0
 by-layer : (w : List ℕ) (o first k K pins : ℕ) (c : List ℕ) → ((b : ℕ) → b < K → LeastCost w o first k K (withLayer pins (suc b)) (getD c b 0)) → TileCosts w o first k K pins c
@@ -39,6 +40,12 @@ pub interval-costs : (w : List ℕ) (o first k K pins starts high : ℕ) (c : Li
     → Eight c (around w o first k K starts high) 0 K → TileCosts w o first k K pins c
 interval-costs w o first k K pins starts high c few some deep mask ends p =
     by-layer w o first k K pins c (λ b h. rw (p .at b (omega arith) h) (around-least w o first k K pins starts high b few some deep mask ends h))
+
+pub pin-costs : (w : List ℕ) (o first k pins starts high : ℕ) (c : List ℕ) → k ≡ 1 → LayerMask 8 pins → PinEnds 8 pins starts high → starts ≡ high + 1
+    → Eight c (met (swept (λ u. getD w (o + 8 * first + u) 0) 8) (λ l. spanOf (withLayer pins (suc l))) 8) 0 8 → TileCosts w o first k 8 pins c
+pin-costs w o first k pins starts high c e mask ends one p =
+    by-layer w o first k 8 pins c
+    (λ b h. rw (e, p .at b (omega arith) h) (pin-least w o first 8 b pins high (omega arith) h (ends .top) (ends-one pins starts high mask ends one)))
 
 -- the same where the number of branches is given as a number of its own
 pub interval-costs-of : (w : List ℕ) (o first k n pins starts high : ℕ) (c : List ℕ) → k ≡ n → n ≤ 3 → LayerMask 8 pins → PinEnds 8 pins starts high

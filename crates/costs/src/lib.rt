@@ -383,6 +383,18 @@ fn pin_ends(pins: u32, layers: usize) -> Bounds
     }
 }
 
+// One branch, and pins that are all on one layer: the branch meets them.
+fn pin_costs(w: &[u32], at: usize, pins: u32) -> [u32; 8]
+    requires { ⌜ at ≤ 33554432 ⌝ }
+    requires { do ⌜ at + 8 ≤ (← ⟦w.len()⟧) ⌝ }
+    requires { ⌜ pins < 256 ⌝ }
+    ensures { λ r. ⌜ Eight r (met (swept (λ u. getD (now (w .entry)) (at + u) 0) 8) (λ l. spanOf (withLayer pins (suc l))) 8) 0 8 ⌝ }
+{
+    let a = sweep_costs(w, at, 8);
+    let p = leaf_costs(pins);
+    meet(&a, &p)
+}
+
 // A tile with k branches, one or more, on eight layers.
 fn eight_costs(w: &[u32], o: usize, first: usize, k: usize, pins: u32) -> [u32; 8]
     requires { ⌜ (1 ≤ k) × (k ≤ 3) ⌝ }
@@ -402,6 +414,9 @@ fn eight_costs(w: &[u32], o: usize, first: usize, k: usize, pins: u32) -> [u32; 
     }
     let e = pin_ends(pins, 8);
     if k == 1 {
+        if e.starts == e.high + 1 {
+            return pin_costs(w, o + 8 * first, pins);
+        }
         return eight_intervals(w, o, first, 1, e.starts, e.high);
     }
     if k == 2 {
