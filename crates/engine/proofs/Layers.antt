@@ -45,9 +45,14 @@ first-combination w o first k K base v n₁ n₂ n₃ a b c e₁ e₂ e₃ t = r
 pub attained-at : (w : List ℕ) (o first k k′ K K′ base v : ℕ) → k ≡ k′ → K ≡ K′ → Attained w o first k K base v → Attained w o first k′ K′ base v
 attained-at w o first k k′ K K′ base v e i t = rw (← e, ← i) t
 
-pub combination-at : (w : List ℕ) (o first k k′ K K′ base v a b c : ℕ) → k ≡ k′ → K ≡ K′ → FirstCombination w o first k′ K′ base v a b c
-    → FirstCombination w o first k K base v a b c
-combination-at w o first k k′ K K′ base v a b c e i t = rw (e, i) t
+-- the layers found are layers, and so the first combination is written
+pub layers-found : (w : List ℕ) (o first k K base v a b c : ℕ) → 1 ≤ K → K ≤ 8 → FirstCombination w o first k K base v a b c → (a ≤ 8) × (b ≤ 8) × (c ≤ 8)
+layers-found w o first k K base v a b c some deep t =
+    (omega (arith, t .turn .1, tried-le 1 k K some), omega (arith, t .turn .3, tried-le 2 k K some), omega (arith, t .turn .5, tried-le 3 k K some))
+
+pub written-at : (w w′ : List ℕ) (m first k k′ K K′ base v a b c : ℕ) → k ≡ k′ → K ≡ K′ → FirstCombination w (4 * m) first k′ K′ base v a b c
+    → w′ ≡ sets w (3 * m + first) (comb k′ a b c) → FirstWritten w w′ m first k K base v
+written-at w w′ m first k k′ K K′ base v a b c e i t r = rw (e, i) (record { a = a; b = b; c = c; combination = t; wrote = r })
 
 -- a tile without branches has its combination: it is the empty one
 pub none-written : (w : List ℕ) (m first k K base v : ℕ) → k ≡ 0 → Attained w (4 * m) first k K base v → FirstWritten w w m first k K base v

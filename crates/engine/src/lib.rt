@@ -158,39 +158,6 @@ fn combination_of(
     first_combination(w, o, first, k, base, n1, n2, n3, goal)
 }
 
-// The same. On all eight layers the numbers of branches and layers are constants, so that loops without a branch fall away and the others have a
-// known length.
-fn least_combination(
-    w: &[u32],
-    o: usize,
-    first: usize,
-    k: usize,
-    layers: usize,
-    base: u32,
-    goal: u32,
-) -> Combination
-    requires { ⌜ k ≤ 3 ⌝ }
-    requires { ⌜ base < 256 ⌝ }
-    requires { ⌜ (1 ≤ layers) × (layers ≤ 8) ⌝ }
-    requires { ⌜ (first ≤ 65536) × (o ≤ 16777216) ⌝ }
-    requires { do ⌜ o + 8 * (first + k) ≤ (← ⟦w.len()⟧) ⌝ }
-    requires { ⌜ Attained (now w) o first k layers base goal ⌝ }
-    ensures { λ r. ⌜ FirstCombination (now (w .entry)) o first k layers base goal (r .a) (r .b) (r .c) ⌝ }
-{
-    if layers == 8 {
-        if k == 1 {
-            return combination_of(w, o, first, 1, 8, base, goal);
-        }
-        if k == 2 {
-            return combination_of(w, o, first, 2, 8, base, goal);
-        }
-        if k == 3 {
-            return combination_of(w, o, first, 3, 8, base, goal);
-        }
-    }
-    combination_of(w, o, first, k, layers, base, goal)
-}
-
 // ---- the choice of layers
 
 // Stores the layers of k branches from `at` on.
@@ -215,7 +182,8 @@ fn put_layers(w: &mut [u32], at: usize, k: usize, a: usize, b: usize, c: usize)
     w[at + 2] = c as u32;
 }
 
-// Chooses the layers of a tile's branches: the first combination that costs `goal`.
+// Chooses the layers of a tile's branches: the first combination that costs `goal`. On all eight layers the numbers of branches and layers are
+// constants, so that loops without a branch fall away and the others have a known length.
 fn choose_branches(
     w: &mut [u32],
     m: usize,
@@ -233,8 +201,27 @@ fn choose_branches(
     requires { ⌜ Attained (now w) (4 * m) first k layers base goal ⌝ }
     ensures { λ _. ⌜ FirstWritten (now (w .entry)) (now (w .exit)) m first k layers base goal ⌝ }
 {
-    let t = least_combination(w, 4 * m, first, k, layers, base, goal);
-    put_layers(w, 3 * m + first, k, t.a, t.b, t.c);
+    let o = 4 * m;
+    let at = 3 * m + first;
+    if layers == 8 {
+        if k == 1 {
+            let t = combination_of(w, o, first, 1, 8, base, goal);
+            put_layers(w, at, 1, t.a, t.b, t.c);
+            return;
+        }
+        if k == 2 {
+            let t = combination_of(w, o, first, 2, 8, base, goal);
+            put_layers(w, at, 2, t.a, t.b, t.c);
+            return;
+        }
+        if k == 3 {
+            let t = combination_of(w, o, first, 3, 8, base, goal);
+            put_layers(w, at, 3, t.a, t.b, t.c);
+            return;
+        }
+    }
+    let t = combination_of(w, o, first, k, layers, base, goal);
+    put_layers(w, at, k, t.a, t.b, t.c);
 }
 
 // Chooses the layers of the branches of tile i, which is not the root and has its own layer already.
