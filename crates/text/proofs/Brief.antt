@@ -1,13 +1,13 @@
 -- A number of one or two digits, without a loop.
 -- Assumes nothing.
-use mathlib.Core.Bool.{Bool, true, false, not}
+use mathlib.Core.Bool.{Bool, true, false, not, _&&_, cond}
 use mathlib.Core.List.{List, [], _∷_}
 use mathlib.Core.Path.{_≡_, refl, sym, ap, _∙_}
 use Prim.Native.Nat.{ℕ, _+_, _-_, _*_, _≤_, _<_}
 use native.Mathlib.Omega.{arith}
 use borrow.Author.Tests.{leb-true, lt-leb, eq-eqb, ne-eqb, not-false}
-use lib.Dec.{leb}
-use lib.ListN.{length, getD, drop}
+use lib.Dec.{leb, eqb}
+use lib.ListN.{length, getD, drop, List·getD-eq-default}
 use Rattle.model.specs.Text.{isDigit, isNumber, valueFrom}
 use Rattle.text.specs.Entries.{endedAt, commaAt, Short, pinEntryAt, edgeEntryAt, broken, wayAt, Told}
 use Rattle.text.specs.Number.{digitRun, run, numberAt}
@@ -24,6 +24,13 @@ roomy r a n e h = leb-true a n (sym e ∙ not-false r h)
 -- a byte below 48 is no digit
 no-digit : (b end : ℕ) → b ≡ end → end < 48 → isDigit b ≡ false
 no-digit b end e h = rw (lt-leb 48 b (omega arith))
+
+pub digit-least : (b : ℕ) → isDigit b ≡ true → 48 ≤ b
+digit-least b e = go (leb 48 b) (leb b 57) refl e
+  where
+    go : (p q : Bool) → leb 48 b ≡ p → (p && q) ≡ true → 48 ≤ b
+    go true q h k = leb-true 48 b h
+    go false q h k = absurd (let y : _≡_ {A = ℕ} 0 1 = cc in omega arith)
 
 module _ (s : List ℕ) (at : ℕ) where
   by-run : (ds : List ℕ) (v next : ℕ) → run s at ≡ ds → isNumber ds ≡ true → v ≡ valueFrom 0 ds → next ≡ at + length ds → numberAt s at ≡ Value v next
@@ -88,6 +95,16 @@ module _ (s : List ℕ) (at x p y q : ℕ) (first : endedAt s at 44 ≡ Value x 
   pin-told l inside d e l-is r h =
       told-is (pinEntryAt s at) r
       (rw (sym (comma-is s at) ∙ first, sym (comma-is s p) ∙ second, number-one s q inside d e) (h ∙ ap (λ (k : ℕ). broken s x y k (q + 1)) l-is))
+
+-- where a byte behind the letter is wanting, there is no entry
+pub way-out : (s : List ℕ) (x y q : ℕ) → length s < q + 2 → Bad ≡ wayAt s x y q
+way-out s x y q h =
+    rw (List·getD-eq-default s 0 {n = q + 1} (omega arith)) (go (eqb (getD s q 0) 101) (eqb (getD s q 0) 110))
+  where
+    go : (a b : Bool) → Bad ≡ cond a Bad (cond b Bad Bad)
+    go true b = refl
+    go false true = refl
+    go false false = refl
 
 -- what was found is the entry
 pub told-more : (e r : Entry) (x y z n : ℕ) → Told e r → r ≡ More x y z n → More x y z n ≡ e

@@ -1,6 +1,6 @@
 // Numbers, keys and entries at a place of the job text. Every function takes any place: past the end there is nothing to read.
 ghost use mathlib.Core.Path.{_≡_};
-ghost use Prim.Native.Nat.{_+_, _-_, _<_, _≤_};
+ghost use Prim.Native.Nat.{_+_, _-_, _*_, _<_, _≤_};
 ghost use lib.Dec.{leb};
 ghost use lib.ListN.{length, drop};
 ghost use lib.Seq.{slice};
@@ -85,6 +85,14 @@ fn digit_value(b: u8) -> usize
     ensures { λ r. ⌜ r ≤ 207 ⌝ }
 {
     if b < 48 { 0 } else { (b - 48) as usize }
+}
+
+// What two digits spell: 528 is 10 × 48 + 48.
+fn two_digits(a: u8, b: u8) -> usize
+    requires { ⌜ (48 ≤ a) × (48 ≤ b) ⌝ }
+    ensures { λ r. ⌜ r ≡ 10 * (a - 48) + (b - 48) ⌝ }
+{
+    10 * (a as usize) + (b as usize) - 528
 }
 
 // What the bytes from `at` up to `end` spell.
@@ -178,9 +186,8 @@ pub fn short(s: &[u8], at: usize, end: u8) -> Numeral
     if !is_digit(b) {
         return Numeral::Malformed;
     }
-    let tens = digit_value(a);
-    let ones = digit_value(b);
-    Numeral::Value(10 * tens + ones, at + 3)
+    let v = two_digits(a, b);
+    Numeral::Value(v, at + 3)
 }
 
 // A number and a comma.
@@ -202,13 +209,11 @@ fn with_comma(s: &[u8], at: usize) -> Numeral
     }
 }
 
-// The entry x,y,z with the byte behind it, which stands at n.
-fn break_at(s: &[u8], x: usize, y: usize, z: usize, n: usize) -> Entry
+// The entry x,y,z with the byte behind it, which stands at n, inside the text.
+fn break_in(s: &[u8], x: usize, y: usize, z: usize, n: usize) -> Entry
+    requires { ⌜ n < length (now s) ⌝ }
     ensures { λ r. ⌜ r ≡ broken (now (s .entry)) x y z n ⌝ }
 {
-    if s.len() <= n {
-        return Entry::Bad;
-    }
     let b = s[n];
     if b == 59 {
         return Entry::More(x, y, z, n + 1);
@@ -219,19 +224,27 @@ fn break_at(s: &[u8], x: usize, y: usize, z: usize, n: usize) -> Entry
     Entry::Bad
 }
 
-// The rest of an edge from its letter on, which stands at q.
-fn way_at(s: &[u8], x: usize, y: usize, q: usize) -> Entry
-    ensures { λ r. ⌜ r ≡ wayAt (now (s .entry)) x y q ⌝ }
+// The same at any place.
+fn break_at(s: &[u8], x: usize, y: usize, z: usize, n: usize) -> Entry
+    ensures { λ r. ⌜ r ≡ broken (now (s .entry)) x y z n ⌝ }
 {
-    if s.len() <= q {
+    if s.len() <= n {
         return Entry::Bad;
     }
+    break_in(s, x, y, z, n)
+}
+
+// The rest of an edge from its letter on, which stands at q, with a byte behind it.
+fn way_in(s: &[u8], x: usize, y: usize, q: usize) -> Entry
+    requires { ⌜ q + 2 ≤ length (now s) ⌝ }
+    ensures { λ r. ⌜ r ≡ wayAt (now (s .entry)) x y q ⌝ }
+{
     let b = s[q];
     if b == 101 {
-        return break_at(s, x, y, 0, q + 1);
+        return break_in(s, x, y, 0, q + 1);
     }
     if b == 110 {
-        return break_at(s, x, y, 1, q + 1);
+        return break_in(s, x, y, 1, q + 1);
     }
     Entry::Bad
 }
@@ -257,7 +270,7 @@ fn short_pin(s: &[u8], at: usize) -> Entry
     if is_digit(c) {
         return Entry::Bad;
     }
-    break_at(s, x, y, digit_value(b), q + 1)
+    break_in(s, x, y, digit_value(b), q + 1)
 }
 
 // The same with numbers of any length.
@@ -300,7 +313,7 @@ fn short_edge(s: &[u8], at: usize) -> Entry
     let Numeral::Value(y, q) = short(s, p, 44) else {
         return Entry::Bad;
     };
-    way_at(s, x, y, q)
+    way_in(s, x, y, q)
 }
 
 // The same with numbers of any length.
@@ -313,7 +326,10 @@ fn long_edge(s: &[u8], at: usize) -> Entry
     let Numeral::Value(y, q) = with_comma(s, p) else {
         return Entry::Bad;
     };
-    way_at(s, x, y, q)
+    if !room(s, q, 2) {
+        return Entry::Bad;
+    }
+    way_in(s, x, y, q)
 }
 
 // An edge and the byte behind it.

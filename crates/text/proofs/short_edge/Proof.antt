@@ -1,6 +1,9 @@
 -- `short_edge` meets its contract.
 -- Assumes nothing.
+use mathlib.Core.Path.{_≡_}
 use Prim.Native.Nat.{_+_, _≤_}
+use Rattle.text.specs.Entries.{endedAt}
+use Rattle.text.specs.declared.Numeral.the-variants.{Value}
 use native.Mathlib.Omega.{arith}
 use lib.ListN.{length}
 use borrow.Author.Needs.{needs}
@@ -20,14 +23,27 @@ short-requires-2 c κs =
     let f = short-found (x .s .now) (x .at) 44 (c .before .before .before .short .result) (g .0 .0) (g .0 .1 .0) (c .before .before .before .short .ensures) (g .1) in
     (omega (arith, r, f .1), omega arith)
 
+-- the two numbers and their commas, and two bytes are left
+found : (c : tie.After-known-told2) → let x = c .before .before .before .before .before .before .before .before .before .before .before .args in
+    let g = c .before .before .before .before .before .x .given in
+    let h = c .before .y .given in
+    (endedAt (x .s .now) (x .at) 44 ≡ Value (g .0 .0) (g .0 .1 .0)) × (endedAt (x .s .now) (g .0 .1 .0) 44 ≡ Value (h .0 .0) (h .0 .1 .0)) × (h .0 .1 .0 + 2 ≤ length (x .s .now))
+found c =
+    let x = c .before .before .before .before .before .before .before .before .before .before .before .args in
+    let g = c .before .before .before .before .before .x .given in
+    let h = c .before .y .given in
+    let r : x .at + 8 ≤ length (x .s .now) = roomy _ _ _ (c .before .before .before .before .before .before .before .before .before .room .ensures) (c .before .before .before .before .before .before .before .before .if1 .left) in
+    let f = short-found (x .s .now) (x .at) 44 (c .before .before .before .before .before .before .before .short .result) (g .0 .0) (g .0 .1 .0) (c .before .before .before .before .before .before .before .short .ensures) (g .1) in
+    let k = short-found (x .s .now) (g .0 .1 .0) 44 (c .before .before .before .short2 .result) (h .0 .0) (h .0 .1 .0) (c .before .before .before .short2 .ensures) (h .1) in
+    (f .0, k .0, omega (arith, r, f .1, k .1))
+
 returns-4 : tie.Need-returns-4
 returns-4 c =
     let x = c .before .before .before .before .before .before .before .before .before .before .before .before .args in
     let g = c .before .before .before .before .before .before .x .given in
     let h = c .before .before .y .given in
-    let f = short-found (x .s .now) (x .at) 44 (c .before .before .before .before .before .before .before .before .short .result) (g .0 .0) (g .0 .1 .0) (c .before .before .before .before .before .before .before .before .short .ensures) (g .1) in
-    let k = short-found (x .s .now) (g .0 .1 .0) 44 (c .before .before .before .before .short2 .result) (h .0 .0) (h .0 .1 .0) (c .before .before .before .before .short2 .ensures) (h .1) in
-    edge-told (x .s .now) (x .at) (g .0 .0) (g .0 .1 .0) (h .0 .0) (h .0 .1 .0) (f .0) (k .0) (c .way-at .result) (c .way-at .ensures)
+    let f = found (c .before) in
+    edge-told (x .s .now) (x .at) (g .0 .0) (g .0 .1 .0) (h .0 .0) (h .0 .1 .0) (f .0) (f .1) (c .way-in .result) (c .way-in .ensures)
 
 pub short-edge-spec : {M : Type 1} → statement M
 short-edge-spec =
@@ -37,5 +53,6 @@ short-edge-spec =
     short-requires
     (λ c. search needs) (λ c. search needs) (λ c. search needs)
     short-requires-2
-    (λ c. search needs) (λ c. search needs) (λ c. search needs) (λ c κs. search needs)
+    (λ c. search needs) (λ c. search needs) (λ c. search needs)
+    (λ c κs. found c .2)
     returns-4)

@@ -46,7 +46,7 @@ returns-6 c =
     let f = found (c .before .before .before .before .before .before .before .before) in
     pin-told (x .s .now) (x .at) (g .0 .0) (g .0 .1 .0) (h .0 .0) (h .0 .1 .0) (f .0) (f .1) (c .before .digit-value .result) (omega (arith, f .2))
     (sym (c .before .before .before .before .before .before .is-digit .ensures) ∙ not-false _ (c .before .before .before .before .before .if2 .left)) (sym (c .before .before .before .is-digit2 .ensures) ∙ c .before .before .if3 .left) (c .before .digit-value .ensures .0)
-    (c .break-at .result) (c .break-at .ensures)
+    (c .break-in .result) (c .break-in .ensures)
 
 pub short-pin-spec : {M : Type 1} → statement M
 short-pin-spec =
@@ -63,5 +63,5 @@ short-pin-spec =
     (λ c. omega (arith, found (c .before .before .before .before) .2))
     (λ c κs. search needs) (λ c. search needs) (λ c κs. search needs)
     (λ c. omega (arith, found (c .before .before .before .before .before .before .before) .2))
-    (λ c κs. search needs)
+    (λ c κs. omega (arith, found (c .before .before .before .before .before .before .before) .2))
     returns-6)
