@@ -9,10 +9,12 @@ use borrow.Author.Tests.{leb-true, lt-leb, eq-eqb, ne-eqb, not-false}
 use lib.Dec.{leb, eqb}
 use lib.ListN.{length, getD, drop, List·getD-eq-default}
 use Rattle.model.specs.Text.{isDigit, isNumber, valueFrom}
-use Rattle.text.specs.Entries.{endedAt, commaAt, Short, pinEntryAt, edgeEntryAt, broken, wayAt, Told}
+use Rattle.text.specs.Entries.{endedAt, commaAt, Short, Paired, pinEntryAt, edgeEntryAt, broken, wayAt, Told}
 use Rattle.text.specs.Number.{digitRun, run, numberAt}
 use Rattle.text.specs.declared.Entry.{Entry}
 use Rattle.text.specs.declared.Entry.the-variants.{More, Last, Bad}
+use Rattle.text.specs.declared.Pair.{Pair}
+use Rattle.text.specs.declared.Pair.the-variants.{Values}
 use Rattle.text.specs.declared.Numeral.{Numeral}
 use Rattle.text.specs.declared.Numeral.the-variants.{Value, Malformed}
 use Rattle.text.proofs.Digits.{digits-more, digits-stop}
@@ -73,7 +75,7 @@ module _ (s : List ℕ) (at : ℕ) where
   pub short-found : (end : ℕ) (r : Numeral) (v next : ℕ) → Short s at end r → r ≡ Value v next → (endedAt s at end ≡ Value v next) × (next ≤ at + 3)
   short-found end r v next h e = rw e at h
 
-  comma-is : endedAt s at 44 ≡ commaAt s at
+  pub comma-is : endedAt s at 44 ≡ commaAt s at
   unfolding endedAt commaAt
   comma-is = refl
 
@@ -84,17 +86,18 @@ told-is e (More x y z n) h = h
 told-is e (Last x y z n) h = h
 told-is e Bad h = tt
 
-module _ (s : List ℕ) (at x p y q : ℕ) (first : endedAt s at 44 ≡ Value x p) (second : endedAt s p 44 ≡ Value y q) where
+pub paired : (s : List ℕ) (at : ℕ) (r : Pair) (x y q : ℕ) → Paired s at r → r ≡ Values x y q → Paired s at (Values x y q)
+paired s at r x y q h e = rw e at h
+
+module _ (s : List ℕ) (at x y q : ℕ) (h : Paired s at (Values x y q)) where
   pub edge-told : (r : Entry) → r ≡ wayAt s x y q → Told (edgeEntryAt s at) r
   unfolding edgeEntryAt
-  edge-told r h = told-is (edgeEntryAt s at) r (rw (sym (comma-is s at) ∙ first, sym (comma-is s p) ∙ second) h)
+  edge-told r e = told-is (edgeEntryAt s at) r (rw (h .1, h .2) e)
 
-  pub pin-told : (l : ℕ) → q + 1 < length s → isDigit (getD s q 0) ≡ true → isDigit (getD s (q + 1) 0) ≡ false → l ≡ getD s q 0 - 48
-      → (r : Entry) → r ≡ broken s x y l (q + 1) → Told (pinEntryAt s at) r
+  pub pin-told : (l : ℕ) → isDigit (getD s q 0) ≡ true → isDigit (getD s (q + 1) 0) ≡ false → l ≡ getD s q 0 - 48 → (r : Entry) → r ≡ broken s x y l (q + 1) → Told (pinEntryAt s at) r
   unfolding pinEntryAt
-  pin-told l inside d e l-is r h =
-      told-is (pinEntryAt s at) r
-      (rw (sym (comma-is s at) ∙ first, sym (comma-is s p) ∙ second, number-one s q inside d e) (h ∙ ap (λ (k : ℕ). broken s x y k (q + 1)) l-is))
+  pin-told l d e l-is r k =
+      told-is (pinEntryAt s at) r (rw (h .1, h .2, number-one s q (omega (arith, h .3)) d e) (k ∙ ap (λ (m : ℕ). broken s x y m (q + 1)) l-is))
 
 -- where a byte behind the letter is wanting, there is no entry
 pub way-out : (s : List ℕ) (x y q : ℕ) → length s < q + 2 → Bad ≡ wayAt s x y q

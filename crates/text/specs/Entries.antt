@@ -5,10 +5,12 @@ use mathlib.Core.List.{List, [], _∷_}
 use mathlib.Core.Path.{_≡_}
 use Prim.Native.Nat.{ℕ, _+_, _≤_}
 use lib.Dec.{eqb}
-use lib.ListN.{getD}
+use lib.ListN.{length, getD}
 use Rattle.text.specs.Number.{numberAt}
 use Rattle.text.specs.declared.Entry.{Entry}
 use Rattle.text.specs.declared.Entry.the-variants.{More, Last, Bad}
+use Rattle.text.specs.declared.Pair.{Pair}
+use Rattle.text.specs.declared.Pair.the-variants.{Values, Other}
 use Rattle.text.specs.declared.Numeral.{Numeral}
 use Rattle.text.specs.declared.Numeral.the-variants.{Value, Malformed}
 
@@ -36,6 +38,11 @@ Short s at end Malformed = Unit {0}
 -- a number and a comma
 unfoldable pub commaAt : List ℕ → ℕ → Numeral
 commaAt s at = onNumber (numberAt s at) (λ v next. cond (eqb (getD s next 0) 44) (Value v (next + 1)) Malformed) Malformed
+
+-- what was found is the two numbers that an entry begins with, and two bytes more are there
+abbrev pub Paired : List ℕ → ℕ → Pair → Type 0
+Paired s at (Values x y q) = (p : ℕ) × (commaAt s at ≡ Value x p) × (commaAt s p ≡ Value y q) × (q + 2 ≤ length s)
+Paired s at Other = Unit {0}
 
 -- the byte behind an entry, at n: a semicolon or byte 10
 abbrev pub broken : List ℕ → ℕ → ℕ → ℕ → ℕ → Entry

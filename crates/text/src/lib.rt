@@ -6,7 +6,7 @@ ghost use lib.ListN.{length, drop};
 ghost use lib.Seq.{slice};
 ghost use Rattle.model.specs.Text.{isDigit, valueFrom};
 ghost use Rattle.text.specs.Number.{digitRun, numberAt};
-ghost use Rattle.text.specs.Entries.{startsWith, commaAt, Short, broken, wayAt, pinEntryAt, edgeEntryAt, Told};
+ghost use Rattle.text.specs.Entries.{startsWith, commaAt, Short, Paired, broken, wayAt, pinEntryAt, edgeEntryAt, Told};
 ghost use Rattle.text.specs.Items.{entryOf};
 ghost use Rattle.text.specs.Refusals.{faultNumber, numberOf, lineOf};
 
@@ -40,6 +40,12 @@ pub enum Refusal {
 pub enum Numeral {
     Value(usize, usize),
     Malformed,
+}
+
+// Two numbers with a comma behind each, and the place after them.
+pub enum Pair {
+    Values(usize, usize, usize),
+    Other,
 }
 
 // An entry of three parts and the place after the byte behind it, a semicolon or byte 10. Of an edge the third part is 0 for east and 1 for north.
@@ -249,17 +255,27 @@ fn way_in(s: &[u8], x: usize, y: usize, q: usize) -> Entry
     Entry::Bad
 }
 
+// The x and y of an entry, where both have one or two digits and two bytes more are there. Other says nothing.
+fn short_pair(s: &[u8], at: usize) -> Pair
+    ensures { λ r. ⌜ Paired (now (s .entry)) at r ⌝ }
+{
+    if !room(s, at, 8) {
+        return Pair::Other;
+    }
+    let Numeral::Value(x, p) = short(s, at, 44) else {
+        return Pair::Other;
+    };
+    let Numeral::Value(y, q) = short(s, p, 44) else {
+        return Pair::Other;
+    };
+    Pair::Values(x, y, q)
+}
+
 // A pin and the byte behind it, where x and y have one or two digits and the layer has one. Bad says nothing.
 fn short_pin(s: &[u8], at: usize) -> Entry
     ensures { λ r. ⌜ Told (pinEntryAt (now (s .entry)) at) r ⌝ }
 {
-    if !room(s, at, 8) {
-        return Entry::Bad;
-    }
-    let Numeral::Value(x, p) = short(s, at, 44) else {
-        return Entry::Bad;
-    };
-    let Numeral::Value(y, q) = short(s, p, 44) else {
+    let Pair::Values(x, y, q) = short_pair(s, at) else {
         return Entry::Bad;
     };
     let b = s[q];
@@ -304,13 +320,7 @@ pub fn pin_at(s: &[u8], at: usize) -> Entry
 fn short_edge(s: &[u8], at: usize) -> Entry
     ensures { λ r. ⌜ Told (edgeEntryAt (now (s .entry)) at) r ⌝ }
 {
-    if !room(s, at, 8) {
-        return Entry::Bad;
-    }
-    let Numeral::Value(x, p) = short(s, at, 44) else {
-        return Entry::Bad;
-    };
-    let Numeral::Value(y, q) = short(s, p, 44) else {
+    let Pair::Values(x, y, q) = short_pair(s, at) else {
         return Entry::Bad;
     };
     way_in(s, x, y, q)
