@@ -6,8 +6,8 @@ use mathlib.Core.Logic.{⊎-elim}
 use mathlib.Core.Path.{_≡_, refl, sym, ap, ap₂, _∙_}
 use Prim.Native.Nat.{ℕ, _+_, _-_, _*_, _≤_, _<_}
 use native.Mathlib.Omega.{arith}
-use borrow.Author.Tests.{eq-eqb, ne-eqb, eqb-true, eqb-false}
-use lib.Dec.{eqb}
+use borrow.Author.Tests.{eq-eqb, ne-eqb, eqb-true, ltb-true, ltb-false}
+use lib.Dec.{eqb, ltb}
 use lib.ListN.{length, getD}
 use Rattle.scan.specs.Places.{getD-in}
 use Rattle.text.specs.Entries.{onNumber, commaAt, broken, pinEntryAt, edgeEntryAt}
@@ -17,7 +17,7 @@ use Rattle.text.specs.declared.Entry.the-variants.{More, Last, Bad}
 use Rattle.text.specs.declared.Numeral.{Numeral}
 use Rattle.text.specs.declared.Numeral.the-variants.{Value, Malformed}
 use Rattle.known.specs.Known.{entryOf, ShortNumber, ShortEntry}
-use Rattle.known.proofs.Digits.{Spelt, spelt}
+use Rattle.known.proofs.Spelling.{Spelt, spelt}
 
 -- ---- a coordinate
 
@@ -25,10 +25,8 @@ pub record Coordinates (s : List ℕ) (i : ℕ) : Type 0 where
   pub first-least : 48 ≤ getD s i 0
   pub first-most : getD s i 0 ≤ 57
   pub room : i + 1 < length s
-  pub one : (a : ℕ) → a + 48 ≡ getD s i 0 → getD s (i + 1) 0 ≡ 44 → Value a (i + 2) ≡ commaAt s i
-  pub second-least : (getD s (i + 1) 0 ≡ 44 → ⊥) → 48 ≤ getD s (i + 1) 0
-  pub beyond : (getD s (i + 1) 0 ≡ 44 → ⊥) → i + 2 < length s
-  pub two : (a b : ℕ) → a + 48 ≡ getD s i 0 → b + 48 ≡ getD s (i + 1) 0 → (getD s (i + 1) 0 ≡ 44 → ⊥) → Value (10 * a + b) (i + 3) ≡ commaAt s i
+  pub one : (a : ℕ) → a + 48 ≡ getD s i 0 → getD s (i + 1) 0 < 48 → Value a (i + 2) ≡ commaAt s i
+  pub two : (a : ℕ) → a + 48 ≡ getD s i 0 → 48 ≤ getD s (i + 1) 0 → Value (10 * a + (getD s (i + 1) 0 - 48)) (i + 3) ≡ commaAt s i
 
 module _ (s : List ℕ) (i v n : ℕ) (number : numberAt s i ≡ Value v n) (comma : getD s n 0 ≡ 44) (short : v < 100) where
   value : Value v (n + 1) ≡ commaAt s i
@@ -51,18 +49,14 @@ module _ (s : List ℕ) (i v n : ℕ) (number : numberAt s i ≡ Value v n) (com
         first-most = k .first-most;
         room = omega (arith, inside, d .0);
         one = λ a e f. valued a (i + 2) (omega (arith, d .1)) (omega (arith, d .0));
-        second-least = λ f. absurd (f b);
-        beyond = λ f. absurd (f b);
-        two = λ a c e g f. absurd (f b);
+        two = λ a e f. absurd (omega (arith, b));
       })
       (λ d. record {
         first-least = k .first-least;
         first-most = k .first-most;
         room = omega (arith, inside, d .0);
         one = λ a e f. absurd (omega (arith, d .2));
-        second-least = λ f. d .2;
-        beyond = λ f. omega (arith, inside, d .0);
-        two = λ a c e g f. valued (10 * a + c) (i + 3) (omega (arith, d .4)) (omega (arith, d .0));
+        two = λ a e f. valued (10 * a + (getD s (i + 1) 0 - 48)) (i + 3) (omega (arith, d .4)) (omega (arith, d .0));
       })
       (k .digits)
 
@@ -77,6 +71,17 @@ coordinates s i h = go (numberAt s i) refl h
         test : (q : Bool) → eqb (getD s n 0) 44 ≡ q → ShortNumber (cond q (Value v (n + 1)) Malformed) → Coordinates s i
         test true q l = comma-coordinate s i v n e (eqb-true (getD s n 0) 44 q) l
         test false q l = absurd l
+
+-- whether a comma or a digit stands behind the first digit a
+pub decoded : (s : List ℕ) (i : ℕ) → Coordinates s i → (a : ℕ) → a + 48 ≡ getD s i 0
+    → Value (cond (ltb (getD s (i + 1) 0) 48) a (10 * a + (getD s (i + 1) 0 - 48))) (i + 3 - cond (ltb (getD s (i + 1) 0) 48) 1 0) ≡ commaAt s i
+decoded s i k a e = go (ltb (getD s (i + 1) 0) 48) refl
+  where
+    go : (q : Bool) → ltb (getD s (i + 1) 0) 48 ≡ q → Value (cond q a (10 * a + (getD s (i + 1) 0 - 48))) (i + 3 - cond q 1 0) ≡ commaAt s i
+    go true h = let n : i + 3 - 1 ≡ i + 2 = omega arith in ap (Value a) n ∙ k .one a e (ltb-true (getD s (i + 1) 0) 48 h)
+    go false h =
+        let n : i + 3 - 0 ≡ i + 3 = omega arith in
+        ap (Value (10 * a + (getD s (i + 1) 0 - 48))) n ∙ k .two a e (ltb-false (getD s (i + 1) 0) 48 h)
 
 -- ---- two coordinates, and a third part
 

@@ -1,8 +1,8 @@
 // The entries of lines that the first pass found right, read again. Every coordinate has one digit or two, and what was tested then is not tested again.
 ghost use mathlib.Core.Path.{_≡_};
 ghost use mathlib.Core.Bool.{cond};
-ghost use Prim.Native.Nat.{_+_, _≤_};
-ghost use lib.Dec.{eqb};
+ghost use Prim.Native.Nat.{_+_, _-_, _*_, _≤_};
+ghost use lib.Dec.{eqb, ltb};
 ghost use Rattle.text.specs.Entries.{commaAt, pinEntryAt, edgeEntryAt};
 ghost use Rattle.text.specs.declared.Numeral.the-variants.{Value};
 ghost use Rattle.known.specs.Known.{entryOf, ShortNumber, ShortEntry};
@@ -29,6 +29,26 @@ fn digit(b: u8) -> usize
     b as usize - 48
 }
 
+// 1 for a comma, and 0 for a digit.
+fn comma(b: u8) -> usize
+    ensures { λ r. ⌜ r ≡ cond (ltb b 48) 1 0 ⌝ }
+    ensures { λ r. ⌜ r ≤ 1 ⌝ }
+{
+    if b < 48 { 1 } else { 0 }
+}
+
+// The digit `first` before a comma, or with the digit b behind it.
+fn digits(first: usize, b: u8) -> usize
+    requires { ⌜ first ≤ 207 ⌝ }
+    ensures { λ r. ⌜ r ≡ cond (ltb b 48) first (10 * first + (b - 48)) ⌝ }
+{
+    if b < 48 {
+        return first;
+    }
+    let second = digit(b);
+    10 * first + second
+}
+
 // The number of one digit or two that stands at `at`, before a comma.
 fn coordinate_at(s: &[u8], at: usize) -> Coordinate
     requires { ⌜ ShortNumber (commaAt (now s) at) ⌝ }
@@ -36,17 +56,9 @@ fn coordinate_at(s: &[u8], at: usize) -> Coordinate
 {
     let first = digit(s[at]);
     let b = s[at + 1];
-    if b == 44 {
-        return Coordinate {
-            value: first,
-            next: at + 2,
-        };
-    }
-    let second = digit(b);
-    Coordinate {
-        value: 10 * first + second,
-        next: at + 3,
-    }
+    let value = digits(first, b);
+    let next = at + 3 - comma(b);
+    Coordinate { value, next }
 }
 
 // 1 for `n`, which is north.
