@@ -32,7 +32,8 @@ one-put : tie.Need-put-layers-requires
 one-put c κs =
     let g = c .before .before .before .before .before .before .args in
     let t = c .before .combination-of in
-    (omega arith, (layers-found (g .w .now) (4 * g .m) (g .first) 1 8 (g .base) (g .goal) (t .result .a) (t .result .b) (t .result .c) (omega arith) (omega arith) (t .ensures), (omega arith, omega arith)))
+    let f = layers-found (g .w .now) (4 * g .m) (g .first) 1 8 (g .base) (g .goal) (t .result .a) (t .result .b) (t .result .c) (omega arith) (omega arith) (t .ensures) in
+    (omega arith, ((omega (arith, f .0), omega (arith, f .1), omega (arith, f .2)), (omega arith, omega arith)))
 
 one-returns : tie.Need-returns
 one-returns c =
@@ -65,7 +66,8 @@ two-put : tie.Need-put-layers-requires-2
 two-put c κs =
     let g = c .before .before .before .before .before .before .before .args in
     let t = c .before .combination-of2 in
-    (omega arith, (layers-found (g .w .now) (4 * g .m) (g .first) 2 8 (g .base) (g .goal) (t .result .a) (t .result .b) (t .result .c) (omega arith) (omega arith) (t .ensures), (omega arith, omega arith)))
+    let f = layers-found (g .w .now) (4 * g .m) (g .first) 2 8 (g .base) (g .goal) (t .result .a) (t .result .b) (t .result .c) (omega arith) (omega arith) (t .ensures) in
+    (omega arith, ((omega (arith, f .0), omega (arith, f .1), omega (arith, f .2)), (omega arith, omega arith)))
 
 two-returns : tie.Need-returns-2
 two-returns c =
@@ -98,7 +100,8 @@ three-put : tie.Need-put-layers-requires-3
 three-put c κs =
     let g = c .before .before .before .before .before .before .before .before .args in
     let t = c .before .combination-of3 in
-    (omega arith, (layers-found (g .w .now) (4 * g .m) (g .first) 3 8 (g .base) (g .goal) (t .result .a) (t .result .b) (t .result .c) (omega arith) (omega arith) (t .ensures), (omega arith, omega arith)))
+    let f = layers-found (g .w .now) (4 * g .m) (g .first) 3 8 (g .base) (g .goal) (t .result .a) (t .result .b) (t .result .c) (omega arith) (omega arith) (t .ensures) in
+    (omega arith, ((omega (arith, f .0), omega (arith, f .1), omega (arith, f .2)), (omega arith, omega arith)))
 
 three-returns : tie.Need-returns-3
 three-returns c =
@@ -131,7 +134,8 @@ any-put : tie.Need-put-layers-requires-4
 any-put c κs =
     let g = c .before .before .before .before .before .args in
     let t = c .before .combination-of4 in
-    (omega arith, (layers-found (g .w .now) (4 * g .m) (g .first) (g .k) (g .layers) (g .base) (g .goal) (t .result .a) (t .result .b) (t .result .c) (omega arith) (omega arith) (t .ensures), (omega arith, omega arith)))
+    let f = layers-found (g .w .now) (4 * g .m) (g .first) (g .k) (g .layers) (g .base) (g .goal) (t .result .a) (t .result .b) (t .result .c) (omega arith) (omega arith) (t .ensures) in
+    (omega arith, ((omega (arith, f .0), omega (arith, f .1), omega (arith, f .2)), (omega arith, omega arith)))
 
 any-returns : tie.Need-returns-4
 any-returns c =
