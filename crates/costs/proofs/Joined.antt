@@ -1,4 +1,7 @@
--- What branches cost that meet, two by two, is the least cost over combinations, for a tile with two or three branches and no pin.
+-- What branches cost that meet, two by two, is the least cost over combinations: for a tile with two or three branches and no pin, and for one with one
+-- branch and pins on one layer. The layers are points on a line. From three of them to a fourth, where they meet, it is as far as from the lowest to the
+-- highest of the three if that fourth is the middle one, and no less far otherwise. Of four layers the lower two meet at the inner one of them, or the upper
+-- two do.
 -- Assumes nothing.
 use mathlib.Core.Path.{_≡_, refl, sym, ap, _∙_, subst}
 use mathlib.Core.List.{List, [], _∷_, _++_}
@@ -236,7 +239,7 @@ module _ (g h i : ℕ → ℕ) (K : ℕ) where
           first : Wider (u .from) (u .upto) t a K → TripleHit g h i K l (x + y + apart t l)
           first i₁ = second i₁ (wider (i₁ .from) (i₁ .upto) t l K (holds-more (u .from) (u .upto) t a K t i₁ (u .above)) (i₁ .deep) p)
 
--- two sums of the three are as good as each other in any order of the branches
+-- the three ways in which two of the branches meet first: each is no cheaper, and one of them is just as cheap
 module _ (g h i : ℕ → ℕ) (K l : ℕ) (inside : l < K) where
   third-low : (t : ℕ) → t < K → (tripleMet g h i K l ≤ part g h i K l t) × (tripleMet g h i K l ≤ part h g i K l t) × (tripleMet g h i K l ≤ part i g h K l t)
   unfolding thirdMet
@@ -381,23 +384,23 @@ module _ (K base : ℕ) (S : List ℕ) (deep : K ≤ 8) (some : 1 ≤ K) (set : 
 
 module _ (w : List ℕ) (o first K l : ℕ) (deep : K ≤ 8) (inside : l < K) where
   -- the branches' costs, as code reads them
-  abbrev one : ℕ → ℕ
-  one t = getD w (o + 8 * first + t) 0
+  abbrev row₁ : ℕ → ℕ
+  row₁ t = getD w (o + 8 * first + t) 0
 
-  abbrev two : ℕ → ℕ
-  two t = getD w (o + 8 * first + 8 + t) 0
+  abbrev row₂ : ℕ → ℕ
+  row₂ t = getD w (o + 8 * first + 8 + t) 0
 
-  abbrev three′ : ℕ → ℕ
-  three′ t = getD w (o + 8 * first + 16 + t) 0
+  abbrev row₃ : ℕ → ℕ
+  row₃ t = getD w (o + 8 * first + 16 + t) 0
 
-  one-at : (a a′ : ℕ) → suc a ≡ a′ → one a ≡ rowAt w o first a′
-  one-at a a′ e = let i : o + 8 * first + a ≡ o + 8 * first + (a′ - 1) = omega arith in ap (λ (t : ℕ). getD w t 0) i
+  row₁-at : (a a′ : ℕ) → suc a ≡ a′ → row₁ a ≡ rowAt w o first a′
+  row₁-at a a′ e = let i : o + 8 * first + a ≡ o + 8 * first + (a′ - 1) = omega arith in ap (λ (t : ℕ). getD w t 0) i
 
-  two-at : (a a′ : ℕ) → suc a ≡ a′ → two a ≡ rowAt w o (suc first) a′
-  two-at a a′ e = let i : o + 8 * first + 8 + a ≡ o + 8 * suc first + (a′ - 1) = omega arith in ap (λ (t : ℕ). getD w t 0) i
+  row₂-at : (a a′ : ℕ) → suc a ≡ a′ → row₂ a ≡ rowAt w o (suc first) a′
+  row₂-at a a′ e = let i : o + 8 * first + 8 + a ≡ o + 8 * suc first + (a′ - 1) = omega arith in ap (λ (t : ℕ). getD w t 0) i
 
-  three-at : (a a′ : ℕ) → suc a ≡ a′ → three′ a ≡ rowAt w o (suc (suc first)) a′
-  three-at a a′ e = let i : o + 8 * first + 16 + a ≡ o + 8 * suc (suc first) + (a′ - 1) = omega arith in ap (λ (t : ℕ). getD w t 0) i
+  row₃-at : (a a′ : ℕ) → suc a ≡ a′ → row₃ a ≡ rowAt w o (suc (suc first)) a′
+  row₃-at a a′ e = let i : o + 8 * first + 16 + a ≡ o + 8 * suc (suc first) + (a′ - 1) = omega arith in ap (λ (t : ℕ). getD w t 0) i
 
   -- without pins
   abbrev alone : ℕ
@@ -412,13 +415,13 @@ module _ (w : List ℕ) (o first K l : ℕ) (deep : K ≤ 8) (inside : l < K) wh
   held : (z : List ℕ) → Covers 1 K z → Held K alone (suc l ∷ []) deep (omega arith) alone-set alone-covers z
   held = ends K alone (suc l ∷ []) deep (omega arith) alone-set alone-covers
 
-  pub pair-least : LeastCost w o first 2 K (withLayer 0 (suc l)) (pairMet one two K l)
-  pair-least = by-lists w o first 2 K (withLayer 0 (suc l)) (pairMet one two K l) (omega arith) (omega arith) low hit (met-top (swept one K) (swept two K) K l inside)
+  pub pair-least : LeastCost w o first 2 K (withLayer 0 (suc l)) (pairMet row₁ row₂ K l)
+  pair-least = by-lists w o first 2 K (withLayer 0 (suc l)) (pairMet row₁ row₂ K l) (omega arith) (omega arith) low hit (met-top (swept row₁ K) (swept row₂ K) K l inside)
     where
       sum : (v x y a b u c : ℕ) → v ≤ x + y + u → x ≡ a → y ≡ b → u ≡ c → v ≤ c + (a + (b + 0))
       sum v x y a b u c p e₁ e₂ e₃ = omega (arith, p, e₁, e₂, e₃)
 
-      low : (z : List ℕ) → length z ≡ 2 → Covers 1 K z → pairMet one two K l ≤ spanOf (maskOf (withLayer 0 (suc l)) z) + below (rowAt w o) first z
+      low : (z : List ℕ) → length z ≡ 2 → Covers 1 K z → pairMet row₁ row₂ K l ≤ spanOf (maskOf (withLayer 0 (suc l)) z) + below (rowAt w o) first z
       low [] n c = absurd (omega arith)
       low (a ∷ []) n c = absurd (omega arith)
       low (a ∷ b ∷ []) n c = finish (held (a ∷ b ∷ []) c)
@@ -429,22 +432,22 @@ module _ (w : List ℕ) (o first K l : ℕ) (deep : K ≤ 8) (inside : l < K) wh
           eb : suc (b - 1) ≡ b
           eb = omega (arith, c b (in-tail b a (b ∷ []) (in-head b [])) .0)
 
-          finish : Held K alone (suc l ∷ []) deep (omega arith) alone-set alone-covers (a ∷ b ∷ []) → pairMet one two K l ≤ spanOf (maskOf (withLayer 0 (suc l)) (a ∷ b ∷ [])) + below (rowAt w o) first (a ∷ b ∷ [])
+          finish : Held K alone (suc l ∷ []) deep (omega arith) alone-set alone-covers (a ∷ b ∷ []) → pairMet row₁ row₂ K l ≤ spanOf (maskOf (withLayer 0 (suc l)) (a ∷ b ∷ [])) + below (rowAt w o) first (a ∷ b ∷ [])
           finish h =
-              sum (pairMet one two K l) (one (a - 1)) (two (b - 1)) (rowAt w o first a) (rowAt w o (suc first) b) (h .upto - h .from) (spanOf (maskOf (withLayer 0 (suc l)) (a ∷ b ∷ [])))
-              (pair-low one two K l (a - 1) (b - 1) (h .from) (h .upto) (h .inner) (h .held l (in-head (suc l) (a ∷ b ∷ [])))
+              sum (pairMet row₁ row₂ K l) (row₁ (a - 1)) (row₂ (b - 1)) (rowAt w o first a) (rowAt w o (suc first) b) (h .upto - h .from) (spanOf (maskOf (withLayer 0 (suc l)) (a ∷ b ∷ [])))
+              (pair-low row₁ row₂ K l (a - 1) (b - 1) (h .from) (h .upto) (h .inner) (h .held l (in-head (suc l) (a ∷ b ∷ [])))
               (h .held (a - 1) (in-tail (suc (a - 1)) (suc l) (a ∷ b ∷ []) (subst (λ (x : ℕ). In x (a ∷ b ∷ [])) (sym ea) (in-head a (b ∷ [])))))
               (h .held (b - 1) (in-tail (suc (b - 1)) (suc l) (a ∷ b ∷ []) (subst (λ (x : ℕ). In x (a ∷ b ∷ [])) (sym eb) (in-tail b a (b ∷ []) (in-head b []))))))
-              (one-at (a - 1) a ea) (two-at (b - 1) b eb) (h .cost)
+              (row₁-at (a - 1) a ea) (row₂-at (b - 1) b eb) (h .cost)
       low (a ∷ b ∷ c ∷ z) n d = absurd (omega arith)
 
       total : (v x y a b u c : ℕ) → x + y + u ≤ v → x ≡ a → y ≡ b → c ≤ u → v ≤ c + (a + (b + 0)) → c + (a + (b + 0)) ≡ v
       total v x y a b u c p e₁ e₂ q r = omega (arith, p, e₁, e₂, q, r)
 
-      hit : pairMet one two K l < illegalCost → (z : List ℕ) × (length z ≡ 2) × Covers 1 K z × (spanOf (maskOf (withLayer 0 (suc l)) z) + below (rowAt w o) first z ≡ pairMet one two K l)
-      hit e = finish (pair-hit one two K l inside e)
+      hit : pairMet row₁ row₂ K l < illegalCost → (z : List ℕ) × (length z ≡ 2) × Covers 1 K z × (spanOf (maskOf (withLayer 0 (suc l)) z) + below (rowAt w o) first z ≡ pairMet row₁ row₂ K l)
+      hit e = finish (pair-hit row₁ row₂ K l inside e)
         where
-          finish : PairHit one two K l (pairMet one two K l) → (z : List ℕ) × (length z ≡ 2) × Covers 1 K z × (spanOf (maskOf (withLayer 0 (suc l)) z) + below (rowAt w o) first z ≡ pairMet one two K l)
+          finish : PairHit row₁ row₂ K l (pairMet row₁ row₂ K l) → (z : List ℕ) × (length z ≡ 2) × Covers 1 K z × (spanOf (maskOf (withLayer 0 (suc l)) z) + below (rowAt w o) first z ≡ pairMet row₁ row₂ K l)
           finish h =
               let z : List ℕ = suc (h .a) ∷ suc (h .b) ∷ [] in
               let c : Covers (suc (h .from)) (suc (h .upto)) (suc l ∷ z) =
@@ -455,17 +458,17 @@ module _ (w : List ℕ) (o first K l : ℕ) (deep : K ≤ 8) (inside : l < K) wh
                 z,
                 refl,
                 u .0,
-                total (pairMet one two K l) (one (h .a)) (two (h .b)) (rowAt w o first (suc (h .a))) (rowAt w o (suc first) (suc (h .b))) (h .upto - h .from) (spanOf (maskOf (withLayer 0 (suc l)) z)) (h .cost)
-                    (one-at (h .a) (suc (h .a)) refl) (two-at (h .b) (suc (h .b)) refl) (u .1) (low z refl (u .0)),
+                total (pairMet row₁ row₂ K l) (row₁ (h .a)) (row₂ (h .b)) (rowAt w o first (suc (h .a))) (rowAt w o (suc first) (suc (h .b))) (h .upto - h .from) (spanOf (maskOf (withLayer 0 (suc l)) z)) (h .cost)
+                    (row₁-at (h .a) (suc (h .a)) refl) (row₂-at (h .b) (suc (h .b)) refl) (u .1) (low z refl (u .0)),
               )
 
-  pub triple-least : LeastCost w o first 3 K (withLayer 0 (suc l)) (tripleMet one two three′ K l)
-  triple-least = by-lists w o first 3 K (withLayer 0 (suc l)) (tripleMet one two three′ K l) (omega arith) (omega arith) low hit (third-top one two three′ K l inside)
+  pub triple-least : LeastCost w o first 3 K (withLayer 0 (suc l)) (tripleMet row₁ row₂ row₃ K l)
+  triple-least = by-lists w o first 3 K (withLayer 0 (suc l)) (tripleMet row₁ row₂ row₃ K l) (omega arith) (omega arith) low hit (third-top row₁ row₂ row₃ K l inside)
     where
       sum : (v x y z a b d u c : ℕ) → v ≤ x + y + z + u → x ≡ a → y ≡ b → z ≡ d → u ≡ c → v ≤ c + (a + (b + (d + 0)))
       sum v x y z a b d u c p e₁ e₂ e₃ e₄ = omega (arith, p, e₁, e₂, e₃, e₄)
 
-      low : (z : List ℕ) → length z ≡ 3 → Covers 1 K z → tripleMet one two three′ K l ≤ spanOf (maskOf (withLayer 0 (suc l)) z) + below (rowAt w o) first z
+      low : (z : List ℕ) → length z ≡ 3 → Covers 1 K z → tripleMet row₁ row₂ row₃ K l ≤ spanOf (maskOf (withLayer 0 (suc l)) z) + below (rowAt w o) first z
       low [] n c = absurd (omega arith)
       low (a ∷ []) n c = absurd (omega arith)
       low (a ∷ b ∷ []) n c = absurd (omega arith)
@@ -489,25 +492,25 @@ module _ (w : List ℕ) (o first K l : ℕ) (deep : K ≤ 8) (inside : l < K) wh
           ed : suc (d - 1) ≡ d
           ed = omega (arith, c d id .0)
 
-          finish : Held K alone (suc l ∷ []) deep (omega arith) alone-set alone-covers (a ∷ b ∷ d ∷ []) → tripleMet one two three′ K l ≤ spanOf (maskOf (withLayer 0 (suc l)) (a ∷ b ∷ d ∷ [])) + below (rowAt w o) first (a ∷ b ∷ d ∷ [])
+          finish : Held K alone (suc l ∷ []) deep (omega arith) alone-set alone-covers (a ∷ b ∷ d ∷ []) → tripleMet row₁ row₂ row₃ K l ≤ spanOf (maskOf (withLayer 0 (suc l)) (a ∷ b ∷ d ∷ [])) + below (rowAt w o) first (a ∷ b ∷ d ∷ [])
           finish h =
-              sum (tripleMet one two three′ K l) (one (a - 1)) (two (b - 1)) (three′ (d - 1)) (rowAt w o first a) (rowAt w o (suc first) b) (rowAt w o (suc (suc first)) d) (h .upto - h .from)
+              sum (tripleMet row₁ row₂ row₃ K l) (row₁ (a - 1)) (row₂ (b - 1)) (row₃ (d - 1)) (rowAt w o first a) (rowAt w o (suc first) b) (rowAt w o (suc (suc first)) d) (h .upto - h .from)
               (spanOf (maskOf (withLayer 0 (suc l)) (a ∷ b ∷ d ∷ [])))
-              (triple-low one two three′ K l inside (a - 1) (b - 1) (d - 1) (h .from) (h .upto) (h .inner) (h .held l (in-head (suc l) (a ∷ b ∷ d ∷ [])))
+              (triple-low row₁ row₂ row₃ K l inside (a - 1) (b - 1) (d - 1) (h .from) (h .upto) (h .inner) (h .held l (in-head (suc l) (a ∷ b ∷ d ∷ [])))
               (h .held (a - 1) (in-tail (suc (a - 1)) (suc l) (a ∷ b ∷ d ∷ []) (subst (λ (x : ℕ). In x (a ∷ b ∷ d ∷ [])) (sym ea) ia)))
               (h .held (b - 1) (in-tail (suc (b - 1)) (suc l) (a ∷ b ∷ d ∷ []) (subst (λ (x : ℕ). In x (a ∷ b ∷ d ∷ [])) (sym eb) ib)))
               (h .held (d - 1) (in-tail (suc (d - 1)) (suc l) (a ∷ b ∷ d ∷ []) (subst (λ (x : ℕ). In x (a ∷ b ∷ d ∷ [])) (sym ed) id))))
-              (one-at (a - 1) a ea) (two-at (b - 1) b eb) (three-at (d - 1) d ed) (h .cost)
+              (row₁-at (a - 1) a ea) (row₂-at (b - 1) b eb) (row₃-at (d - 1) d ed) (h .cost)
       low (a ∷ b ∷ c ∷ d ∷ z) n e = absurd (omega arith)
 
       total : (v x y z a b d u c : ℕ) → x + y + z + u ≤ v → x ≡ a → y ≡ b → z ≡ d → c ≤ u → v ≤ c + (a + (b + (d + 0))) → c + (a + (b + (d + 0))) ≡ v
       total v x y z a b d u c p e₁ e₂ e₃ q r = omega (arith, p, e₁, e₂, e₃, q, r)
 
-      hit : tripleMet one two three′ K l < illegalCost → (z : List ℕ) × (length z ≡ 3) × Covers 1 K z × (spanOf (maskOf (withLayer 0 (suc l)) z) + below (rowAt w o) first z ≡ tripleMet one two three′ K l)
-      hit e = finish (triple-hit one two three′ K l inside e)
+      hit : tripleMet row₁ row₂ row₃ K l < illegalCost → (z : List ℕ) × (length z ≡ 3) × Covers 1 K z × (spanOf (maskOf (withLayer 0 (suc l)) z) + below (rowAt w o) first z ≡ tripleMet row₁ row₂ row₃ K l)
+      hit e = finish (triple-hit row₁ row₂ row₃ K l inside e)
         where
-          finish : TripleHit one two three′ K l (tripleMet one two three′ K l)
-              → (z : List ℕ) × (length z ≡ 3) × Covers 1 K z × (spanOf (maskOf (withLayer 0 (suc l)) z) + below (rowAt w o) first z ≡ tripleMet one two three′ K l)
+          finish : TripleHit row₁ row₂ row₃ K l (tripleMet row₁ row₂ row₃ K l)
+              → (z : List ℕ) × (length z ≡ 3) × Covers 1 K z × (spanOf (maskOf (withLayer 0 (suc l)) z) + below (rowAt w o) first z ≡ tripleMet row₁ row₂ row₃ K l)
           finish h =
               let z : List ℕ = suc (h .a) ∷ suc (h .b) ∷ suc (h .c) ∷ [] in
               let c : Covers (suc (h .from)) (suc (h .upto)) (suc l ∷ z) =
@@ -519,9 +522,9 @@ module _ (w : List ℕ) (o first K l : ℕ) (deep : K ≤ 8) (inside : l < K) wh
                 z,
                 refl,
                 u .0,
-                total (tripleMet one two three′ K l) (one (h .a)) (two (h .b)) (three′ (h .c)) (rowAt w o first (suc (h .a))) (rowAt w o (suc first) (suc (h .b))) (rowAt w o (suc (suc first)) (suc (h .c))) (h .upto - h .from)
+                total (tripleMet row₁ row₂ row₃ K l) (row₁ (h .a)) (row₂ (h .b)) (row₃ (h .c)) (rowAt w o first (suc (h .a))) (rowAt w o (suc first) (suc (h .b))) (rowAt w o (suc (suc first)) (suc (h .c))) (h .upto - h .from)
                     (spanOf (maskOf (withLayer 0 (suc l)) z)) (h .cost)
-                    (one-at (h .a) (suc (h .a)) refl) (two-at (h .b) (suc (h .b)) refl) (three-at (h .c) (suc (h .c)) refl) (u .1) (low z refl (u .0)),
+                    (row₁-at (h .a) (suc (h .a)) refl) (row₂-at (h .b) (suc (h .b)) refl) (row₃-at (h .c) (suc (h .c)) refl) (u .1) (low z refl (u .0)),
               )
 
 -- ---- one branch, and pins that are all on one layer p
@@ -567,7 +570,7 @@ module _ (w : List ℕ) (o first K l pins p : ℕ) (deep : K ≤ 8) (inside : l 
               (middle (swept row K) leaf K l (a - 1) p (row (a - 1)) 0 (h .from) (h .upto) (h .inner) (h .held l (in-head (suc l) (suc p ∷ a ∷ []))) ia
               (h .held p (in-tail (suc p) (suc l) (suc p ∷ a ∷ []) (in-head (suc p) (a ∷ []))))
               (λ t q. swept-low row K t q (a - 1) (within-K (a - 1) (h .from) (h .upto) ia (h .inner))) (λ t q. omega (arith, leaf-is t q)))
-              (one-at w o first K l deep inside (a - 1) a ea) (h .cost)
+              (row₁-at w o first K l deep inside (a - 1) a ea) (h .cost)
             where
               within-K : (x lo hi : ℕ) → Inside lo hi x → hi < K → x < K
               within-K x lo hi q r = omega arith
@@ -589,7 +592,7 @@ module _ (w : List ℕ) (o first K l pins p : ℕ) (deep : K ≤ 8) (inside : l 
               (covers-cons (suc lo) (suc hi) (suc l) (suc p ∷ suc a ∷ []) (omega (arith, il .0)) (omega (arith, il .1))
               (covers-cons (suc lo) (suc hi) (suc p) (suc a ∷ []) (omega (arith, ip .0)) (omega (arith, ip .1))
               (covers-cons (suc lo) (suc hi) (suc a) [] (omega (arith, ia .0)) (omega (arith, ia .1)) (covers-none (suc lo) (suc hi))))) in
-              (suc a ∷ [], refl, u .0, total v (row a) (rowAt w o first (suc a)) (hi - lo) (spanOf (maskOf (withLayer pins (suc l)) (suc a ∷ []))) h (one-at w o first K l deep inside a (suc a) refl) (u .1) (low (suc a ∷ []) refl (u .0)))
+              (suc a ∷ [], refl, u .0, total v (row a) (rowAt w o first (suc a)) (hi - lo) (spanOf (maskOf (withLayer pins (suc l)) (suc a ∷ []))) h (row₁-at w o first K l deep inside a (suc a) refl) (u .1) (low (suc a ∷ []) refl (u .0)))
 
           finish : (t a x y : ℕ) → t < K → a < K → x + y + apart t l ≡ v → row a + apart a t ≡ x → y ≡ apart p t
               → (z : List ℕ) × (length z ≡ 1) × Covers 1 K z × (spanOf (maskOf (withLayer pins (suc l)) z) + below (rowAt w o) first z ≡ v)
