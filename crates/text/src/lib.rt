@@ -142,11 +142,11 @@ pub fn key_at(s: &[u8], at: usize, key: &[u8]) -> bool
     requires { ⌜ at ≤ length (now s) ⌝ }
     ensures { λ r. ⌜ r ≡ startsWith (now (key .entry)) (drop at (now (s .entry))) ⌝ }
 {
+    if s.len() - at < key.len() {
+        return false;
+    }
     let mut i = 0;
     while i < key.len() {
-        if s.len() - at <= i {
-            return false;
-        }
         if key[i] != s[at + i] {
             return false;
         }

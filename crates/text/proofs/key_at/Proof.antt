@@ -2,7 +2,7 @@ use native.Mathlib.Nat.{add-zero}
 use Rattle.text.proofs.Prefix.{key-more, key-differs, key-short, key-all}
 use mathlib.Core.Path.{_≡_, refl, sym, ap, _∙_}
 use Prim.Native.Nat.{_+_, _-_, _≤_}
-use lib.ListN.{length, drop, length-set}
+use lib.ListN.{length, drop, length-drop}
 use Rattle.text.specs.Entries.{startsWith}
 use borrow.Author.Needs.{needs}
 use native.Mathlib.Omega.{arith}
@@ -20,19 +20,18 @@ key-at-spec =
     tie.close
     (tie.spec
     Inv-loop μ-loop
-    (λ c. (omega arith, rw add-zero))
     (λ c. search needs)
-    (λ c. let l = c .before .before in
-    let a = l .before .args in
-    sym (l .loop .inv .1 ∙ key-short (a .key .now) (a .s .now) (a .at) (l .loop .i) (omega arith) (omega arith)))
+    (λ c. let a = c .before .args in
+    sym (key-short (a .key .now) (drop (a .at) (a .s .now)) (omega (arith, length-drop (a .at) (a .s .now)))))
+    (λ c. (omega arith, rw add-zero))
     (λ c. search needs) (λ c. search needs) (λ c. search needs)
-    (λ c. let l = c .before .before .before .before .before in
-    let a = l .before .args in
+    (λ c. let l = c .before .before .before .before in
+    let a = c .before .before .before .before .before .before .args in
     sym (l .loop .inv .1 ∙ key-differs (a .key .now) (a .s .now) (a .at) (l .loop .i) (omega arith) (omega arith) (c .if2 .taken)))
     (λ c. search needs) (λ c. search needs)
-    (λ c. let l = c .before .before .before .before .before in
-    let a = l .before .args in
+    (λ c. let l = c .before .before .before .before in
+    let a = c .before .before .before .before .before .before .args in
     (omega arith, l .loop .inv .1 ∙ key-more (a .key .now) (a .s .now) (a .at) (l .loop .i) (omega arith) (omega arith) (c .if2 .left)))
     (λ c. let l = c .before in
-    let a = l .before .args in
+    let a = c .before .before .before .args in
     sym (l .loop .inv .1 ∙ key-all (a .key .now) (a .s .now) (a .at) (l .loop .i) (omega arith))))
