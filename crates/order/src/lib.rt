@@ -37,8 +37,10 @@ fn edge_of(g: Shape, x: usize, y: usize, d: usize) -> usize
     ensures { λ r. ⌜ (r ≡ edgeOf g (triple x y d)) × (r < g .e) ⌝ }
 {
     let here = pins::tile_at(g, x, y);
-    let way = layout::way_out(g, here, d);
-    way.edge
+    match d {
+        0 => here - y,
+        _ => g.east + here,
+    }
 }
 
 fn wide(x: u32) -> u64
