@@ -21,7 +21,7 @@ use Rattle.theory.specs.links.Limits.{demands-small}
 use Rattle.theory.specs.links.Nets.{NetOk}
 use Rattle.theory.specs.links.Planned.{net-ok}
 use Rattle.theory.specs.links.Scores.{tiles-few, pins-few}
-use Rattle.order.specs.Density.{DensityOf}
+use Rattle.order.specs.Density.{Weighed}
 use Rattle.order.specs.Ready.{Ready}
 use Rattle.order.specs.declared.Weights.{Weights}
 
@@ -57,16 +57,16 @@ module _ (s : List ℕ) (g : Shape) (a : Weights) (w table : List ℕ) (lent : L
         tiles-few lent j (ready .accepted),
       )
 
-  pub demand-small : (x : Density) → DensityOf j (netOf j (suc i)) x → x .demand ≤ 4_294_967_296
+  pub demand-small : (x : Density) → Weighed (a .gamma) j (netOf j (suc i)) x → x .demand ≤ 4_294_967_296
   demand-small x d =
       let few : length (net .edges) ≤ 4096 = omega (arith, edges-few j (ready .accepted .width .0) (ready .accepted .height .0) net ok, tiles-few lent j (ready .accepted)) in
-      omega (arith, d .demand, demands-small lent j (ready .accepted) (net .edges), mul-le-mul few (ready .accepted .net-count))
+      omega (arith, d .most, demands-small lent j (ready .accepted) (net .edges), mul-le-mul few (ready .accepted .net-count))
 
-  pub score-is : (e p : ℕ) (x : Density) → e ≡ getD table (countColumn i) 0 → p ≡ getD table (entriesColumn i) 0 → DensityOf j (netOf j (suc i)) x
+  pub score-is : (e p : ℕ) (x : Density) → e ≡ getD table (countColumn i) 0 → p ≡ getD table (entriesColumn i) 0 → Weighed (a .gamma) j (netOf j (suc i)) x
       → (r : ℕ) → r ≡ lengthTerm (a .alpha) e + pinTerm (a .beta) p + densityTerm (a .gamma) (x .demand) (x .capacity) → r ≡ score j (netOf j (suc i))
   unfolding score
   score-is e p x e-is p-is d r r-is =
-      r-is ∙ rw (ready .alpha, ready .beta, ready .gamma, e-is ∙ row .edge-count, p-is ∙ row .pin-count, d .demand, d .capacity)
+      r-is ∙ rw (d .term, ready .alpha, ready .beta, ready .gamma, e-is ∙ row .edge-count, p-is ∙ row .pin-count)
 
   pub score-fits : (v : ℕ) → v ≡ score j (netOf j (suc i)) → (v < 2 ^ 52) × (i < 4096)
   score-fits v e = let f = key-fits lent j (ready .accepted) i h in (omega (arith, e, f .0), f .1)

@@ -1,14 +1,17 @@
 -- D and C of a net: the sums of d(e) and c(e) over its edges, from the working numbers.
 -- Assumes nothing.
 use mathlib.Core.List.{List}
-use mathlib.Core.Path.{_≡_}
-use Prim.Native.Nat.{ℕ, _+_, _^_, _≤_}
+use mathlib.Core.Path.{_≡_, sym, ap, ap₂, _∙_}
+use Prim.Native.Nat.{ℕ, _+_, _*_, _/_, _^_, _≤_, max}
+use native.Mathlib.Nat.{zero-div}
+use native.Mathlib.Omega.{arith}
 use lib.ListN.{getD}
 use Rattle.layout.specs.Areas.{demandAt, flatAt}
 use Rattle.layout.specs.declared.Shape.{Shape}
 use Rattle.model.specs.Job.{Net, Job}
 use Rattle.model.specs.Lists.{sum}
 use Rattle.model.specs.Overflow.{flatDemand, flatCapacity}
+use Rattle.model.specs.Score.{densityTerm}
 use Rattle.score.specs.declared.Density.{Density}
 
 -- d(e) and c(e) as they stand in the working numbers
@@ -30,3 +33,18 @@ pub record Added (g : Shape) (w : List ℕ) (e : ℕ) (v r : Density) : Type 0 w
 pub record DensityOf (j : Job) (n : Net) (r : Density) : Type 0 where
   pub demand : r .demand ≡ sum (flatDemand j) (n .edges)
   pub capacity : r .capacity ≡ sum (flatCapacity j) (n .edges)
+
+-- r gives the density term of a net of the job the value that D and C give it
+pub record Weighed (gamma : ℕ) (j : Job) (n : Net) (r : Density) : Type 0 where
+  pub most : r .demand ≤ sum (flatDemand j) (n .edges)
+  pub term : densityTerm gamma (r .demand) (r .capacity) ≡ densityTerm gamma (sum (flatDemand j) (n .edges)) (sum (flatCapacity j) (n .edges))
+
+-- where gamma is 0 every D and C do
+pub weighed-none : (j : Job) (n : Net) → Weighed 0 j n (record { demand = 0; capacity = 0 })
+weighed-none j n = record { most = omega arith; term = sym (none (sum (flatDemand j) (n .edges)) (sum (flatCapacity j) (n .edges))) }
+  where
+    none : (d c : ℕ) → densityTerm 0 d c ≡ 0
+    none d c = let z : 1000 * 0 * d ≡ 0 = omega arith in ap (λ (k : ℕ). k / max c 1) z ∙ zero-div (max c 1)
+
+pub weighed-sums : (gamma : ℕ) (j : Job) (n : Net) (r : Density) → DensityOf j n r → Weighed gamma j n r
+weighed-sums gamma j n r d = record { most = omega (arith, d .demand); term = ap₂ (densityTerm gamma) (d .demand) (d .capacity) }

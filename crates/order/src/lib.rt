@@ -19,7 +19,7 @@ ghost use Rattle.sort.specs.Keys.{keyOf, keyScore, keyNet};
 ghost use Rattle.sort.specs.Placing.{keysOf};
 ghost use Rattle.tracks.specs.FlatPlan.{FlatDemands, FlatCapacities};
 ghost use Rattle.ways.specs.Entry.{edgeOf};
-ghost use Rattle.order.specs.Density.{Added, DensityOf};
+ghost use Rattle.order.specs.Density.{Added, DensityOf, Weighed};
 ghost use Rattle.order.specs.Ordered.{Ordered};
 ghost use Rattle.order.specs.Ready.{Ready, SomeJob, SomeNet};
 
@@ -111,6 +111,22 @@ fn density(s: &[u8], at: usize, w: &[u32], g: Shape) -> Density
     entries_density(s, at, w, g)
 }
 
+// D and C over the edges of the line at `at`, as the score needs them: where gamma is 0 they weigh nothing and are not summed.
+fn weighed_density(s: &[u8], at: usize, w: &[u32], g: Shape, gamma: u64) -> Density
+    requires { ⌜ Shaped g ⌝ }
+    requires { ⌜ tilesAt g ≤ length (now w) ⌝ }
+    requires { ⌜ EdgesThere (now s) g at ⌝ }
+    ensures { λ r. ⌜ ((j : Job) (n : Net) → EdgesAt (now (s .entry)) (g .w) (g .h) at n → FlatDemands g j (now (w .entry)) → FlatCapacities g j (now (w .entry)) → Weighed gamma j n r) ⌝ }
+{
+    if gamma == 0 {
+        return Density {
+            demand: 0,
+            capacity: 0,
+        };
+    }
+    density(s, at, w, g)
+}
+
 // The score of net i, counted from 0.
 fn net_score(s: &[u8], w: &[u32], g: Shape, a: Weights, table: &[u32], i: usize) -> u64
     requires { ⌜ Shaped g ⌝ }
@@ -121,7 +137,7 @@ fn net_score(s: &[u8], w: &[u32], g: Shape, a: Weights, table: &[u32], i: usize)
     let at = layout::index(table[layout::edges_column(i)]);
     let edges = wide(table[layout::count_column(i)]);
     let pins = wide(table[layout::entries_column(i)]);
-    let x = density(s, at, w, g);
+    let x = weighed_density(s, at, w, g, a.gamma);
     score::score(a.alpha, a.beta, a.gamma, edges, pins, x)
 }
 

@@ -42,8 +42,8 @@ module _ (c : tie.After-wide2) where
   pins-is : pins ≡ getD (s .args .table .now) (entriesColumn (s .args .i)) 0
   pins-is = c .wide2 .ensures .0 ∙ ap (λ (k : ℕ). getD (s .args .table .now) k 0) (c .before .before .entries-column .ensures .0)
 
-density-requires : tie.Need-density-requires
-density-requires c κs =
+weighed-density-requires : tie.Need-weighed-density-requires
+weighed-density-requires c κs =
     let x = s c .args in
     let o = some c in
     (s c .pre .0, (s c .pre .1 .0, line-there (x .s .now) (x .g) (x .a) (x .w .now) (x .table .now) (o .lent) (o .job) (o .ready) (x .i) (o .there) (s c .pre .0) (p c) (p-is c)))
@@ -58,8 +58,8 @@ score-requires c κs =
       omega (arith, a),
       omega (arith, a),
       pins-small (x .s .now) (x .g) (x .a) (x .w .now) (x .table .now) (o .lent) (o .job) (o .ready) (x .i) (o .there) (pins b) (pins-is b),
-      demand-small (x .s .now) (x .g) (x .a) (x .w .now) (x .table .now) (o .lent) (o .job) (o .ready) (x .i) (o .there) (c .density .result)
-          (c .density .ensures (o .job) (netOf (o .job) (suc (x .i)))
+      demand-small (x .s .now) (x .g) (x .a) (x .w .now) (x .table .now) (o .lent) (o .job) (o .ready) (x .i) (o .there) (c .weighed-density .result)
+          (c .weighed-density .ensures (o .job) (netOf (o .job) (suc (x .i)))
           (line-at (x .s .now) (x .g) (x .a) (x .w .now) (x .table .now) (o .lent) (o .job) (o .ready) (x .i) (o .there) (p b) (p-is b)) (o .ready .demands) (o .ready .capacities)),
     )
 
@@ -69,8 +69,8 @@ returns c =
     let b = d .before in
     let x = s b .args in
     λ lent j ready h.
-    score-is (x .s .now) (x .g) (x .a) (x .w .now) (x .table .now) lent j ready (x .i) h (edges b) (pins b) (d .density .result) (edges-is b) (pins-is b)
-    (d .density .ensures j (netOf j (suc (x .i)))
+    score-is (x .s .now) (x .g) (x .a) (x .w .now) (x .table .now) lent j ready (x .i) h (edges b) (pins b) (d .weighed-density .result) (edges-is b) (pins-is b)
+    (d .weighed-density .ensures j (netOf j (suc (x .i)))
     (line-at (x .s .now) (x .g) (x .a) (x .w .now) (x .table .now) lent j ready (x .i) h (p b) (p-is b)) (ready .demands) (ready .capacities))
     (c .score .result) (c .score .ensures)
 
@@ -81,4 +81,4 @@ net-score-spec =
     (λ c κs. search needs) (λ c. search needs) (λ c. search needs) (λ c κs. search needs)
     (λ c κs. search needs) (λ c. search needs) (λ c. search needs) (λ c κs. search needs)
     (λ c κs. search needs) (λ c. search needs) (λ c. search needs) (λ c κs. search needs)
-    density-requires score-requires returns)
+    weighed-density-requires score-requires returns)
