@@ -153,7 +153,8 @@ pub fn moved<'a>(r: Reader<'a>, f: Field) -> Reader<'a>
     }
 }
 
-// Three lines with one number each, by one reader that moves forward from line to line.
+// Three lines with one number each, by one reader that moves forward from line to line. At a refused line it stays; what is read there again
+// counts for nothing, as whoever asks goes by the first refusal.
 pub fn three_lines<'a>(
     s: &'a [u8],
     c: Cursor,
