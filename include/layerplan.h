@@ -9,7 +9,7 @@
  * Both functions are proved: for every text and all lengths, what a call returns and what it leaves in each buffer is
  * what the definitions in crates/model/specs say (contracts: crates/layerplan_c/src/lib.rt). They use no heap and no
  * global state, so calls with different buffers may run at the same time in different threads, and of the C library
- * only memset. The proof does not bound the stack: as compiled, a call takes about 100 KB of it, whatever the job.
+ * only memset. The proof does not bound the stack: as compiled, a call takes about 150 KB of it, whatever the job.
  *
  * What a caller owes, for the proof says nothing of a call that breaks it:
  *
@@ -17,7 +17,7 @@
  *   counts elements, not bytes.
  * - No pointer is null, also where the length is 0: there, pass the address of any object of the type. Nothing is read
  *   or written through it.
- * - The buffers that are written (work, nets, scores, answer, print) overlap neither each other nor the text.
+ * - The buffers that are written (work, order, answer, print) overlap neither each other nor the text.
  * - Nobody else writes the text, or reads or writes the buffers, before the call returns.
  *
  * Nothing is owed beyond that: any bytes may stand in the text and in the buffers, and any length may be too short. A
@@ -62,6 +62,12 @@ typedef struct layerplan_result {
     uint64_t length;  /* layerplan_print: the bytes of the printed text; layerplan_plan: 0 */
 } layerplan_result;
 
+/* An entry of the order list: the number of a net, from 1, and its score. */
+typedef struct layerplan_entry {
+    uint32_t net;
+    uint64_t score;
+} layerplan_entry;
+
 /*
  * The lengths that a job needs: W and H are its width and height, 1 to 64, K its layers, 2 to 8, N its nets, at most
  * 4,096, and A the number of entries on all its `edges` lines, at most a sixth of the length of its text. Longer buffers
@@ -73,7 +79,7 @@ typedef struct layerplan_result {
 #define LAYERPLAN_WORK(W, H, K) \
     (2 * (size_t)(K) * LAYERPLAN_EDGES(W, H) + 2 * LAYERPLAN_EDGES(W, H) + 32 * (size_t)(W) * (size_t)(H))
 
-/* Entries of the order list: N in each of its two lists, nets and scores. */
+/* Entries of the order list: N. */
 #define LAYERPLAN_ORDER(N) ((size_t)(N))
 
 /* Bytes of the answer list: A. */
@@ -95,18 +101,16 @@ typedef struct layerplan_result {
  *   text     the job text; only read
  *   work     working numbers. What they held is of no account. After every call, refused or not, all work_length of
  *            them are 0
- *   nets     the order list: net numbers, in placing order
- *   scores   the order list: the score of the net at the same place in nets. The shorter of the two lists counts as the
- *            length of the order list
+ *   order    the order list: the nets with their scores, in placing order. The bytes between net and score are of no
+ *            account
  *   answer   the layers, 1 to K, nets in job order, each net's layers in the order of its `edges` line
  *
- * An accepted job fills the first N places of nets and scores and the first A of answer; what lies beyond stays as it
- * was. A refused job leaves nets, scores and answer as they were.
+ * An accepted job fills the first N entries of order and the first A bytes of answer; what lies beyond stays as it was.
+ * A refused job leaves order and answer as they were.
  */
 layerplan_result layerplan_plan(const uint8_t *text, size_t text_length,
                                 uint32_t *work, size_t work_length,
-                                uint32_t *nets, size_t nets_length,
-                                uint64_t *scores, size_t scores_length,
+                                layerplan_entry *order, size_t order_length,
                                 uint8_t *answer, size_t answer_length);
 
 /*
@@ -117,8 +121,7 @@ layerplan_result layerplan_plan(const uint8_t *text, size_t text_length,
  */
 layerplan_result layerplan_print(const uint8_t *text, size_t text_length,
                                  uint32_t *work, size_t work_length,
-                                 uint32_t *nets, size_t nets_length,
-                                 uint64_t *scores, size_t scores_length,
+                                 layerplan_entry *order, size_t order_length,
                                  uint8_t *answer, size_t answer_length,
                                  uint8_t *print, size_t print_length);
 

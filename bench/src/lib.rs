@@ -25,11 +25,10 @@ pub struct Returned {
     pub length: u64,
 }
 
-/// What a call borrows. The order list is two slices; there is no print buffer in the call Plan.
+/// What a call borrows. There is no print buffer in the call Plan.
 pub struct Lent<'a> {
     pub work: &'a mut [u32],
-    pub nets: &'a mut [u32],
-    pub scores: &'a mut [u64],
+    pub order: &'a mut [Entry],
     pub answer: &'a mut [u8],
     pub print: Option<&'a mut [u8]>,
 }
@@ -57,8 +56,7 @@ pub fn call(which: Which, text: &[u8], lent: Lent) -> Returned {
 /// A set of buffers, long enough for every job that is accepted.
 pub struct Buffers {
     pub work: Vec<u32>,
-    pub nets: Vec<u32>,
-    pub scores: Vec<u64>,
+    pub order: Vec<Entry>,
     pub answer: Vec<u8>,
     pub print: Vec<u8>,
 }
@@ -81,23 +79,22 @@ impl Buffers {
             lists.filter(|list| !list.is_empty()).map(|list| 1 + list.iter().filter(|b| **b == b';').count()).sum();
         Buffers {
             work: vec![7; 2 * k * edges + 2 * edges + 32 * w * h],
-            nets: vec![7; nets],
-            scores: vec![7; nets],
+            order: vec![Entry { net: 7, score: 7 }; nets],
             answer: vec![7; entries],
             print: vec![7; 256 + 64 * nets + 2 * entries],
         }
     }
 
     pub fn lend(&mut self, print: bool) -> Lent<'_> {
-        let Buffers { work, nets, scores, answer, print: out } = self;
-        Lent { work, nets, scores, answer, print: if print { Some(out) } else { None } }
+        let Buffers { work, order, answer, print: out } = self;
+        Lent { work, order, answer, print: if print { Some(out) } else { None } }
     }
 }
 
-/// A planner as the second planner's tests call it, with an order list of entries.
+/// A planner as the second planner's tests call it.
 impl Planner for Which {
     fn plan(&self, text: &[u8], work: &mut [u32], order: &mut [Entry], answer: &mut [u8]) -> second::calls::Returned {
-        with_entries(*self, text, work, order, answer, None)
+        told(call(*self, text, Lent { work, order, answer, print: None }))
     }
 
     fn print(
@@ -108,24 +105,11 @@ impl Planner for Which {
         answer: &mut [u8],
         print: &mut [u8],
     ) -> second::calls::Returned {
-        with_entries(*self, text, work, order, answer, Some(print))
+        told(call(*self, text, Lent { work, order, answer, print: Some(print) }))
     }
 }
 
-fn with_entries(
-    which: Which,
-    text: &[u8],
-    work: &mut [u32],
-    order: &mut [Entry],
-    answer: &mut [u8],
-    print: Option<&mut [u8]>,
-) -> second::calls::Returned {
-    let mut nets: Vec<u32> = order.iter().map(|entry| entry.net).collect();
-    let mut scores: Vec<u64> = order.iter().map(|entry| entry.score).collect();
-    let returned = call(which, text, Lent { work, nets: &mut nets, scores: &mut scores, answer, print });
-    for (entry, (net, score)) in order.iter_mut().zip(nets.into_iter().zip(scores)) {
-        *entry = Entry { net, score };
-    }
+fn told(returned: Returned) -> second::calls::Returned {
     second::calls::Returned {
         number: returned.number as u32,
         line: returned.line as u32,

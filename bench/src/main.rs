@@ -58,8 +58,7 @@ fn run(which: Which, file: &str, how: &str) {
     let places = [
         (text.as_ptr() as usize, text.len()),
         (buffers.work.as_ptr() as usize, 4 * buffers.work.len()),
-        (buffers.nets.as_ptr() as usize, 4 * buffers.nets.len()),
-        (buffers.scores.as_ptr() as usize, 8 * buffers.scores.len()),
+        (buffers.order.as_ptr() as usize, 16 * buffers.order.len()),
         (buffers.answer.as_ptr() as usize, buffers.answer.len()),
         (buffers.print.as_ptr() as usize, buffers.print.len()),
     ];

@@ -697,7 +697,7 @@ impl Writer<'_> {
 // ---- the call
 
 fn run(text: &[u8], lent: Lent) -> Result<Returned, Refusal> {
-    let Lent { work, nets: order, scores, answer, print } = lent;
+    let Lent { work, order, answer, print } = lent;
     if text.len() > 1_048_576 {
         return Err(Refusal(1, 0));
     }
@@ -725,7 +725,7 @@ fn run(text: &[u8], lent: Lent) -> Result<Returned, Refusal> {
         reader.capacities(b"north=", w, g, true, layer)?;
     }
     let count = reader.ranged(b"nets=", 0, 4096)?;
-    if order.len().min(scores.len()) < count {
+    if order.len() < count {
         return reader.refusal(10);
     }
     let mut table = [Kept::default(); 4097];
@@ -756,7 +756,7 @@ fn run(text: &[u8], lent: Lent) -> Result<Returned, Refusal> {
     }
 
     // the order: the highest score first, of equal ones the lowest number
-    let (order, scores) = (&mut order[..count], &mut scores[..count]);
+    let order = &mut order[..count];
     for net in 0..count {
         let kept = at(&table, net);
         let length = u64::from(at(&table, net + 1).first - kept.first);
@@ -769,12 +769,12 @@ fn run(text: &[u8], lent: Lent) -> Result<Returned, Refusal> {
             });
         }
         let score = 1000 * alpha / length.max(1) + 1000 * beta * u64::from(kept.number) + 1000 * gamma * d / c.max(1);
-        scores[net] = score << 12 | (4095 - net as u64);
+        order[net].score = score << 12 | (4095 - net as u64);
     }
-    scores.sort_unstable_by(|a, b| b.cmp(a));
-    for (number, key) in order.iter_mut().zip(scores.iter_mut()) {
-        *number = 4096 - (*key & 4095) as u32;
-        *key >>= 12;
+    order.sort_unstable_by(|a, b| b.score.cmp(&a.score));
+    for entry in order.iter_mut() {
+        entry.net = 4096 - (entry.score & 4095) as u32;
+        entry.score >>= 12;
     }
 
     let (mut total, mut most) = (0, 0);
@@ -786,8 +786,8 @@ fn run(text: &[u8], lent: Lent) -> Result<Returned, Refusal> {
     let limit = most.div_ceil(layers as u32);
 
     let mut vias = 0;
-    for (turn, number) in order.iter().enumerate() {
-        let net = *number as usize - 1;
+    for (turn, entry) in order.iter().enumerate() {
+        let net = entry.net as usize - 1;
         let kept = at(&table, net);
         let low = mark(text, kept, w, g, ((count + 1 + turn) as u32) << STAMP);
         let tiles = walk(w, width, low);
@@ -805,8 +805,8 @@ fn run(text: &[u8], lent: Lent) -> Result<Returned, Refusal> {
     if let Some(out) = print {
         let mut writer = Writer { out, at: 0 };
         writer.text(b"order=");
-        for (place, number) in order.iter().enumerate() {
-            writer.number(u64::from(*number), if place + 1 < count { b',' } else { b'\n' });
+        for (place, entry) in order.iter().enumerate() {
+            writer.number(u64::from(entry.net), if place + 1 < count { b',' } else { b'\n' });
         }
         if count == 0 {
             writer.text(b"\n");
@@ -833,8 +833,8 @@ fn run(text: &[u8], lent: Lent) -> Result<Returned, Refusal> {
 #[inline(never)]
 #[no_mangle]
 pub fn optimised_call(text: &[u8], lent: Lent) -> Returned {
-    let Lent { work, nets, scores, answer, print } = lent;
-    let returned = match run(text, Lent { work, nets, scores, answer, print }) {
+    let Lent { work, order, answer, print } = lent;
+    let returned = match run(text, Lent { work, order, answer, print }) {
         Ok(returned) => returned,
         Err(Refusal(number, line)) => Returned { number, line, ..Returned::default() },
     };

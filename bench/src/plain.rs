@@ -3,6 +3,7 @@
 //! branches' layers (up to K × K × K of them for each of K layers).
 
 use crate::{Lent, Returned};
+use second::plan::Entry;
 
 struct Refusal(u64, u64);
 
@@ -357,7 +358,7 @@ fn best(table: &[[Best; 9]], step: &Step, above: usize, layers: usize) -> Best {
 }
 
 fn plan(job: &Job, lent: Lent) -> Returned {
-    let Lent { nets: order, scores, answer, print, .. } = lent;
+    let Lent { order, answer, print, .. } = lent;
     let (grid, layers) = (job.grid, job.layers);
     let mut demand = vec![0u32; grid.edges()];
     for net in &job.nets {
@@ -415,8 +416,7 @@ fn plan(job: &Job, lent: Lent) -> Returned {
     }
 
     for (place, (score, net)) in list.iter().enumerate() {
-        order[place] = *net as u32 + 1;
-        scores[place] = *score;
+        order[place] = Entry { net: *net as u32 + 1, score: *score };
     }
     let mut at = 0;
     for layers in &chosen {
@@ -437,8 +437,8 @@ fn listed<T: ToString>(numbers: &[T]) -> String {
     numbers.iter().map(|number| number.to_string()).collect::<Vec<_>>().join(",")
 }
 
-fn printed(order: &[u32], chosen: &[Vec<u8>], vias: &[u32], total_vias: u64, total: u64, limit: u32) -> String {
-    let mut text = format!("order={}\n", listed(order));
+fn printed(order: &[Entry], chosen: &[Vec<u8>], vias: &[u32], total_vias: u64, total: u64, limit: u32) -> String {
+    let mut text = format!("order={}\n", listed(&order.iter().map(|entry| entry.net).collect::<Vec<_>>()));
     for (place, layers) in chosen.iter().enumerate() {
         text += &format!("net={}\nvias={}\nlayers={}\n", place + 1, vias[place], listed(layers));
     }
@@ -450,8 +450,7 @@ fn printed(order: &[u32], chosen: &[Vec<u8>], vias: &[u32], total_vias: u64, tot
 #[no_mangle]
 pub fn plain_call(text: &[u8], lent: Lent) -> Returned {
     lent.work.fill(0);
-    let order = lent.nets.len().min(lent.scores.len());
-    match read(text, lent.work.len(), order, lent.answer.len(), lent.print.as_ref().map(|print| print.len())) {
+    match read(text, lent.work.len(), lent.order.len(), lent.answer.len(), lent.print.as_ref().map(|print| print.len())) {
         Ok(job) => plan(&job, lent),
         Err(Refusal(number, line)) => Returned { number, line, ..Returned::default() },
     }

@@ -1,6 +1,7 @@
 //! The proved planner: the static library that `rt staticlib layerplan_c` writes. A slice goes as pointer and length.
 
 use crate::{Lent, Returned};
+use second::plan::Entry;
 
 #[link(name = "layerplan_c", kind = "static")]
 extern "C" {
@@ -9,10 +10,8 @@ extern "C" {
         text_length: usize,
         work: *mut u32,
         work_length: usize,
-        nets: *mut u32,
-        nets_length: usize,
-        scores: *mut u64,
-        scores_length: usize,
+        order: *mut Entry,
+        order_length: usize,
         answer: *mut u8,
         answer_length: usize,
     ) -> Returned;
@@ -22,10 +21,8 @@ extern "C" {
         text_length: usize,
         work: *mut u32,
         work_length: usize,
-        nets: *mut u32,
-        nets_length: usize,
-        scores: *mut u64,
-        scores_length: usize,
+        order: *mut Entry,
+        order_length: usize,
         answer: *mut u8,
         answer_length: usize,
         out: *mut u8,
@@ -34,7 +31,7 @@ extern "C" {
 }
 
 pub fn call(text: &[u8], lent: Lent) -> Returned {
-    let Lent { work, nets, scores, answer, print } = lent;
+    let Lent { work, order, answer, print } = lent;
     // SAFETY: each pair is a slice that lives through the call, and no two overlap.
     unsafe {
         match print {
@@ -43,10 +40,8 @@ pub fn call(text: &[u8], lent: Lent) -> Returned {
                 text.len(),
                 work.as_mut_ptr(),
                 work.len(),
-                nets.as_mut_ptr(),
-                nets.len(),
-                scores.as_mut_ptr(),
-                scores.len(),
+                order.as_mut_ptr(),
+                order.len(),
                 answer.as_mut_ptr(),
                 answer.len(),
             ),
@@ -55,10 +50,8 @@ pub fn call(text: &[u8], lent: Lent) -> Returned {
                 text.len(),
                 work.as_mut_ptr(),
                 work.len(),
-                nets.as_mut_ptr(),
-                nets.len(),
-                scores.as_mut_ptr(),
-                scores.len(),
+                order.as_mut_ptr(),
+                order.len(),
                 answer.as_mut_ptr(),
                 answer.len(),
                 out.as_mut_ptr(),

@@ -19,8 +19,8 @@ enum {
 #define WORK LAYERPLAN_WORK(WIDTH, HEIGHT, LAYERS)
 #define PRINT LAYERPLAN_PRINT(NETS, ENTRIES)
 
-static uint32_t work[WORK + MORE], nets[NETS + MORE];
-static uint64_t scores[NETS + MORE];
+static uint32_t work[WORK + MORE];
+static layerplan_entry order[NETS + MORE];
 static uint8_t answer[ENTRIES + MORE], print[PRINT + MORE];
 
 static void expect(int holds, const char *what)
@@ -44,8 +44,7 @@ static size_t load(const char *name, uint8_t *text)
 static void fill(void)
 {
     memset(work, FILLED, sizeof work);
-    memset(nets, FILLED, sizeof nets);
-    memset(scores, FILLED, sizeof scores);
+    memset(order, FILLED, sizeof order);
     memset(answer, FILLED, sizeof answer);
     memset(print, FILLED, sizeof print);
 }
@@ -70,11 +69,10 @@ static int same(layerplan_result r, uint64_t number, uint64_t line, uint64_t via
 static void expect_plan(void)
 {
     expect(all(work, 0, sizeof work, 0), "working numbers after a plan");
-    expect(nets[0] == 2 && nets[1] == 1, "net numbers of the order list");
-    expect(scores[0] == 3000 && scores[1] == 2500, "scores of the order list");
+    expect(order[0].net == 2 && order[1].net == 1, "net numbers of the order list");
+    expect(order[0].score == 3000 && order[1].score == 2500, "scores of the order list");
     expect(answer[0] == 2 && answer[1] == 1 && answer[2] == 1, "answer list");
-    expect(all(nets, NETS * sizeof *nets, sizeof nets, FILLED), "net numbers beyond the order list");
-    expect(all(scores, NETS * sizeof *scores, sizeof scores, FILLED), "scores beyond the order list");
+    expect(all(order, NETS * sizeof *order, sizeof order, FILLED), "entries beyond the order list");
     expect(all(answer, ENTRIES, sizeof answer, FILLED), "bytes beyond the answer list");
 }
 
@@ -82,8 +80,7 @@ static void expect_plan(void)
 static void expect_refusal(void)
 {
     expect(all(work, 0, sizeof work, 0), "working numbers after a refusal");
-    expect(all(nets, 0, sizeof nets, FILLED), "net numbers after a refusal");
-    expect(all(scores, 0, sizeof scores, FILLED), "scores after a refusal");
+    expect(all(order, 0, sizeof order, FILLED), "order list after a refusal");
     expect(all(answer, 0, sizeof answer, FILLED), "answer list after a refusal");
     expect(all(print, 0, sizeof print, FILLED), "print buffer after a refusal");
 }
@@ -95,14 +92,15 @@ int main(int count, char **names)
     size_t job_length = load(names[1], job), plan_length = load(names[2], plan);
     layerplan_result r;
 
-    /* the lengths of the header's formulas, written out */
+    /* an entry as the library has it, and the lengths of the header's formulas, written out */
+    expect(sizeof(layerplan_entry) == 16 && offsetof(layerplan_entry, score) == 8, "an entry of the order list");
     expect(WORK == 108 && PRINT == 390, "lengths needed");
     expect(LAYERPLAN_WORK_MOST == 276224 && LAYERPLAN_PRINT_MOST == 611924, "lengths for every job");
 
     /* each call with exactly what is needed, and with more */
     for (size_t more = 0; more <= MORE; more += MORE) {
         fill();
-        r = layerplan_plan(job, job_length, work, WORK + more, nets, NETS + more, scores, NETS + more,
+        r = layerplan_plan(job, job_length, work, WORK + more, order, NETS + more,
                            answer, ENTRIES + more);
         expect(same(r, 0, 0, 2, 0, 0, 0), "numbers of layerplan_plan");
         memset(work + WORK + more, 0, (MORE - more) * sizeof *work); /* not lent */
@@ -110,7 +108,7 @@ int main(int count, char **names)
         expect(all(print, 0, sizeof print, FILLED), "print buffer after layerplan_plan");
 
         fill();
-        r = layerplan_print(job, job_length, work, WORK + more, nets, NETS + more, scores, NETS + more,
+        r = layerplan_print(job, job_length, work, WORK + more, order, NETS + more,
                             answer, ENTRIES + more, print, PRINT + more);
         expect(same(r, 0, 0, 2, 0, 0, plan_length), "numbers of layerplan_print");
         memset(work + WORK + more, 0, (MORE - more) * sizeof *work);
@@ -121,22 +119,21 @@ int main(int count, char **names)
 
     /* no text, and buffers without elements: their pointers are not null */
     fill();
-    r = layerplan_print(job, 0, work, WORK + MORE, nets, 0, scores, 0, answer, 0, print, 0);
+    r = layerplan_print(job, 0, work, WORK + MORE, order, 0, answer, 0, print, 0);
     expect(same(r, 2, 1, 0, 0, 0, 0), "an empty text");
     expect_refusal();
 
-    /* one of each too short; of the two lists of the order list, the shorter one counts */
-    const struct { size_t work, nets, scores, answer, print; uint64_t number, line; } lent[] = {
-        {0, NETS, NETS, ENTRIES, PRINT, 9, 3},
-        {WORK - 1, NETS, NETS, ENTRIES, PRINT, 9, 3},
-        {WORK, NETS - 1, NETS, ENTRIES, PRINT, 10, 11},
-        {WORK, NETS, NETS - 1, ENTRIES, PRINT, 10, 11},
-        {WORK, NETS, NETS, ENTRIES - 1, PRINT, 11, 17},
-        {WORK, NETS, NETS, ENTRIES, PRINT - 1, 11, 17},
+    /* one of each too short */
+    const struct { size_t work, order, answer, print; uint64_t number, line; } lent[] = {
+        {0, NETS, ENTRIES, PRINT, 9, 3},
+        {WORK - 1, NETS, ENTRIES, PRINT, 9, 3},
+        {WORK, NETS - 1, ENTRIES, PRINT, 10, 11},
+        {WORK, NETS, ENTRIES - 1, PRINT, 11, 17},
+        {WORK, NETS, ENTRIES, PRINT - 1, 11, 17},
     };
     for (size_t i = 0; i < sizeof lent / sizeof *lent; i++) {
         fill();
-        r = layerplan_print(job, job_length, work, lent[i].work, nets, lent[i].nets, scores, lent[i].scores,
+        r = layerplan_print(job, job_length, work, lent[i].work, order, lent[i].order,
                             answer, lent[i].answer, print, lent[i].print);
         expect(same(r, lent[i].number, lent[i].line, 0, 0, 0, 0), "a buffer too short");
         expect(all(work, lent[i].work * sizeof *work, sizeof work, FILLED), "working numbers that were not lent");

@@ -50,7 +50,7 @@ static void after_write(int number, siginfo_t *info, void *context)
 
 /* Calls layerplan_plan and tells each write into the answer list. Returns 0 where the system gave what that takes. */
 int watched_plan(const uint8_t *text, size_t text_length, uint32_t *work, size_t work_length,
-                 uint32_t *nets, size_t nets_length, uint64_t *scores, size_t scores_length,
+                 layerplan_entry *order, size_t order_length,
                  uint8_t *answer, size_t answer_length, watcher *tell, void *data, layerplan_result *result)
 {
     size_t page = (size_t)sysconf(_SC_PAGESIZE);
@@ -75,7 +75,7 @@ int watched_plan(const uint8_t *text, size_t text_length, uint32_t *work, size_t
     action.sa_sigaction = after_write;
     if (sigaction(SIGTRAP, &action, &watched.on_trap) || mprotect(pages, size, PROT_READ))
         return 1;
-    *result = layerplan_plan(text, text_length, work, work_length, nets, nets_length, scores, scores_length,
+    *result = layerplan_plan(text, text_length, work, work_length, order, order_length,
                              pages, answer_length);
     if (sigaction(SIGSEGV, &watched.on_write, NULL) || sigaction(SIGTRAP, &watched.on_trap, NULL))
         return 1;

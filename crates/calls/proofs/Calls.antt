@@ -3,11 +3,11 @@
 use mathlib.Core.List.{List, [], _∷_, _++_, map}
 use mathlib.Core.Option.{Option, none, some}
 use mathlib.Core.Path.{_≡_, refl, sym, ap, ap₂, _∙_, subst}
-use Prim.Native.Nat.{ℕ, zero, suc, _+_, _-_, _≤_, min}
+use Prim.Native.Nat.{ℕ, zero, suc, _≤_}
 use native.Mathlib.Omega.{arith}
 use lib.Dec.{T, leb→le}
 use lib.ListN.{length, take, drop, getD, replicate, length-append, length-map, length-replicate}
-use lib.Seq.{drop-append-add, drop-drop, take-at, sets}
+use lib.Seq.{take-at, sets}
 use Rattle.lines.specs.Told.{refusedBy}
 use Rattle.model.specs.Calls.{refusal, accepted as accepted-with, toldOf, outcomeOf, outcome, Buffers, overwrite, stretches, plannedBy, Planned as PlannedBy, planLent, planCall, printedBy, Printed as PrintedBy, printLent, printCall}
 use Rattle.model.specs.Demand3.{Met}
@@ -16,25 +16,24 @@ use Rattle.model.specs.Overflow.{totalOverflow, maxOverflow}
 use Rattle.model.specs.Plan.{plan}
 use Rattle.model.specs.Print.{printed}
 use Rattle.model.specs.Read.{Lent, Place, Result, refused, found, printNeed, printFits, read}
-use Rattle.model.specs.Score.{Entry, order}
+use Rattle.model.specs.Score.{Entry as EntryOf, order}
 use Rattle.print.specs.Held.{Handed, plan-rows, plan-text, plan-fits, plan-overwrites}
 use Rattle.print.specs.Texts.{planText, Rows}
 use Rattle.reader.specs.Whole.{lentBy}
 use Rattle.reader.specs.declared.PrintRoom.the-variants.{Absent, Bytes}
 use Rattle.text.specs.Refusals.{numberOf, lineOf}
 use Rattle.text.specs.declared.Refusal.{Refusal}
-use Rattle.theory.specs.links.Meets.{order-long, plan-call, print-call, plan-total-is, plan-maximum-is, plan-meets-demand3, print-meets-demand3}
+use Rattle.theory.specs.links.Meets.{order-long as order-count, plan-call, print-call, plan-total-is, plan-maximum-is, plan-meets-demand3, print-meets-demand3}
 use Rattle.theory.specs.links.Reading.{Accepted, accepted}
 use Rattle.theory.specs.links.Room.{plan-long}
 use Rattle.theory.specs.links.Stretches.{cut-whole}
-use Rattle.calls.specs.Calls.{entriesOf, entries-long, Beyond, buffersOf, returnedOf, planOf, sizeOf}
-use Rattle.calls.specs.Steps.{PlanMade, PlanFound, NoPlan, PlanTold, PrintFound, PrintTold}
+use Rattle.calls.specs.Calls.{orderOf, entryAt, firstEntries, buffersOf, returnedOf, planOf, sizeOf, printedOf, plannedOf, countOf}
+use Rattle.calls.specs.Steps.{PlanMade, PlanFound, PlanTold, PrintFound, PrintTold, lentAs, entered, PlanLeft, PrintLeft}
+use Rattle.calls.specs.declared.Entry.{Entry}
 use Rattle.calls.specs.declared.Outcome.{Outcome}
 use Rattle.calls.specs.declared.Outcome.the-variants.{Made, Refused}
-use Rattle.calls.specs.declared.Planned.{Planned}
-use Rattle.calls.specs.declared.Planned.the-variants.{Plan as PlanOf, Refused as RefusedBy}
-use Rattle.calls.specs.declared.Printed.{Printed}
-use Rattle.calls.specs.declared.Printed.the-variants.{Print, Refused as NotPrinted}
+use Rattle.calls.specs.declared.Planned.{Planned as PlannedAs}
+use Rattle.calls.specs.declared.Printed.{Printed as PrintedAs}
 use Rattle.calls.specs.declared.Totals.{Totals}
 
 -- ---- the working numbers that are cleared
@@ -49,142 +48,161 @@ zeros-at w n e i = ap (λ (l : List ℕ). getD l i 0) e ∙ zeros n i
 
 -- ---- the order list as two lists
 
-entries-over : (es : List Entry) (ns vs : List ℕ) → length es ≤ length ns → length es ≤ length vs
-    → entriesOf (overwrite (map (λ (e : Entry). e .net) es) ns) (overwrite (map (λ (e : Entry). e .score) es) vs) ≡ overwrite es (entriesOf ns vs)
-entries-over [] ns vs h l = refl
-entries-over (e ∷ es) [] vs h l = absurd (omega arith)
-entries-over (e ∷ es) (n ∷ ns) [] h l = absurd (omega arith)
-entries-over (e ∷ es) (n ∷ ns) (v ∷ vs) h l = ap {B = List Entry} (λ r. e ∷ r) (entries-over es ns vs (omega arith) (omega arith))
+-- one entry more stands at the front of two lists that have one number more
+first-more : (n v : ℕ) (ns vs : List ℕ) (k : ℕ) → firstEntries (n ∷ ns) (v ∷ vs) (suc k) ≡ record { net = n; score = v } ∷ firstEntries ns vs k
+first-more n v ns vs zero = refl
+first-more n v ns vs (suc k) = ap (λ (r : List Entry). r ++ (entryAt ns vs k ∷ [])) (first-more n v ns vs k)
 
-drop-over : (new old : List ℕ) (k : ℕ) → length new ≤ k → drop k (overwrite new old) ≡ drop k old
-drop-over new old k h =
-    let x : k ≡ length new + (k - length new) = omega arith in
-    ap (λ (m : ℕ). drop m (overwrite new old)) x
-    ∙ drop-append-add new (drop (length new) old) (k - length new)
-    ∙ drop-drop (k - length new) (length new) old
-    ∙ ap (λ (m : ℕ). drop m old) (sym x)
+-- the entries es, written as two lists, are read again
+entries-again : (es : List EntryOf) (ns vs : List ℕ)
+    → orderOf (firstEntries (overwrite (map (λ (e : EntryOf). e .net) es) ns) (overwrite (map (λ (e : EntryOf). e .score) es) vs) (length es)) ≡ es
+entries-again es ns vs = go es (drop (length (map (λ (e : EntryOf). e .net) es)) ns) (drop (length (map (λ (e : EntryOf). e .score) es)) vs)
+  where
+    go : (fs : List EntryOf) (xs ys : List ℕ) → orderOf (firstEntries (map (λ (e : EntryOf). e .net) fs ++ xs) (map (λ (e : EntryOf). e .score) fs ++ ys) (length fs)) ≡ fs
+    go [] xs ys = refl
+    go (f ∷ fs) xs ys =
+        ap orderOf (first-more (f .net) (f .score) (map (λ (e : EntryOf). e .net) fs ++ xs) (map (λ (e : EntryOf). e .score) fs ++ ys) (length fs))
+        ∙ ap {B = List EntryOf} (λ r. f ∷ r) (go fs xs ys)
+
+-- entries that are written into an order list are written into the definitions' list
+order-append : (xs ys : List Entry) → orderOf (xs ++ ys) ≡ orderOf xs ++ orderOf ys
+order-append [] ys = refl
+order-append (x ∷ xs) ys = ap {B = List EntryOf} (λ r. record { net = x .net; score = x .score } ∷ r) (order-append xs ys)
+
+order-drop : (k : ℕ) (xs : List Entry) → orderOf (drop k xs) ≡ drop k (orderOf xs)
+order-drop zero xs = refl
+order-drop (suc k) [] = refl
+order-drop (suc k) (x ∷ xs) = order-drop k xs
+
+order-long : (xs : List Entry) → length (orderOf xs) ≡ length xs
+order-long [] = refl
+order-long (x ∷ xs) = ap suc (order-long xs)
+
+order-over : (new old : List Entry) → orderOf (overwrite new old) ≡ overwrite (orderOf new) (orderOf old)
+order-over new old =
+    order-append new (drop (length new) old)
+    ∙ ap (λ (r : List EntryOf). orderOf new ++ r) (order-drop (length new) old ∙ ap (λ (k : ℕ). drop k (orderOf old)) (sym (order-long new)))
 
 -- ---- a plan that is made
 
 module _ (lent : Lent) (j : Job) (acc : Accepted lent j) (nets nets′ scores scores′ answer answer′ table′ : List ℕ) (t : Totals)
-    (made : PlanMade j nets nets′ scores scores′ answer answer′ table′ t) (few : netCount j ≤ min (length nets) (length scores)) where
-  pub order-made : entriesOf nets′ scores′ ≡ overwrite (order j) (entriesOf nets scores)
-  order-made =
-      ap₂ entriesOf (made .ordered .numbers) (made .ordered .values)
-      ∙ entries-over (order j) nets scores (omega (arith, order-long lent j acc)) (omega (arith, order-long lent j acc))
+    (made : PlanMade j nets nets′ scores scores′ answer answer′ table′ t) where
+  order-made : (n : ℕ) → n ≡ netCount j → orderOf (firstEntries nets′ scores′ n) ≡ order j
+  order-made n few =
+      ap (λ (k : ℕ). orderOf (firstEntries nets′ scores′ k)) (few ∙ sym (order-count lent j acc))
+      ∙ ap₂ (λ (ns vs : List ℕ). orderOf (firstEntries ns vs (length (order j)))) (made .ordered .numbers) (made .ordered .values)
+      ∙ entries-again (order j) nets scores
 
-  pub answer-made : answer′ ≡ overwrite (stretches (plan j)) answer
+  answer-made : answer′ ≡ overwrite (stretches (plan j)) answer
   answer-made =
       cut-whole (netEdges j) answer′
       ∙ ap₂ (λ (ys : List (List ℕ)) (l : List ℕ). stretches ys ++ l) (made .placed .held .plan) (made .placed .beyond)
       ∙ ap (λ (k : ℕ). stretches (plan j) ++ drop k answer) (sym (plan-long lent j acc))
 
-  beyond-made : Beyond nets nets′ scores scores′
-  beyond-made = record {
-    numbers =
-        ap (drop (length (entriesOf nets scores))) (made .ordered .numbers)
-        ∙ drop-over (map (λ (e : Entry). e .net) (order j)) nets (length (entriesOf nets scores))
-        (omega (arith, length-map {B = ℕ} (order j) (λ (e : Entry). e .net), order-long lent j acc, entries-long nets scores));
-    values =
-        ap (drop (length (entriesOf nets scores))) (made .ordered .values)
-        ∙ drop-over (map (λ (e : Entry). e .score) (order j)) scores (length (entriesOf nets scores))
-        (omega (arith, length-map {B = ℕ} (order j) (λ (e : Entry). e .score), order-long lent j acc, entries-long nets scores));
-  }
-
 -- ---- the two outcomes
 
-module _ (work nets scores answer w′ nets′ scores′ answer′ : List ℕ) (again : w′ ≡ replicate (length work) 0) where
-  abbrev b : Buffers
-  b = buffersOf work nets scores answer
-
-  pub beyond-refused : NoPlan nets nets′ scores scores′ answer answer′ → Beyond nets nets′ scores scores′
-  beyond-refused k =
-      let numbers : drop (length (entriesOf nets scores)) nets′ ≡ drop (length (entriesOf nets scores)) nets = ap (drop (length (entriesOf nets scores))) (k .nets-same) in
-      let values : drop (length (entriesOf nets scores)) scores′ ≡ drop (length (entriesOf nets scores)) scores = ap (drop (length (entriesOf nets scores))) (k .scores-same) in
-      record { numbers = numbers; values = values }
-
+module _ (work nets scores answer w′ nets′ scores′ answer′ : List ℕ) (again : w′ ≡ replicate (length work) 0) (os : List EntryOf) where
   -- nothing is written for a refused job
-  pub left-refused : (r : Refusal) → NoPlan nets nets′ scores scores′ answer answer′
-      → record { returned = returnedOf (RefusedBy r); buffers = buffersOf w′ nets′ scores′ answer′ }
-      ≡ plannedBy (refusal (numberOf r) (lineOf r)) (buffersOf work nets scores answer)
+  left-refused : (r : Refusal) → answer′ ≡ answer
+      → record { returned = returnedOf (plannedOf (Refused r)); buffers = lentAs w′ (entered nets′ scores′ (Refused r) os) answer′ }
+      ≡ plannedBy (refusal (numberOf r) (lineOf r)) (lentAs work os answer)
   left-refused r k i = record {
-    returned = returnedOf (RefusedBy r);
-    buffers = record { working = again i; order = entriesOf (k .nets-same i) (k .scores-same i); answer = k .answer-same i };
+    returned = returnedOf (plannedOf (Refused r));
+    buffers = record { working = again i; order = os; answer = k i };
   }
 
   -- a plan that is made is the job's
-  pub left-made : (lent : Lent) (s : List ℕ) (table′ : List ℕ) (n : ℕ) (t : Totals) (k : PlanFound s lent nets nets′ scores scores′ answer answer′ table′ n t)
-      → netCount (k .job) ≤ min (length nets) (length scores)
-      → record { returned = returnedOf (PlanOf t); buffers = buffersOf w′ nets′ scores′ answer′ }
-      ≡ plannedBy (accepted-with (toldOf (k .job) (order (k .job)) (plan (k .job)))) (buffersOf work nets scores answer)
-  left-made lent s table′ n t k few =
+  left-made : (lent : Lent) (s : List ℕ) (table′ : List ℕ) (n : ℕ) (t : Totals) (size : ℕ) (k : PlanFound s lent nets nets′ scores scores′ answer answer′ table′ n t)
+      → record { returned = returnedOf (plannedOf (Made n t size)); buffers = lentAs w′ (entered nets′ scores′ (Made n t size) os) answer′ }
+      ≡ plannedBy (accepted-with (toldOf (k .job) (order (k .job)) (plan (k .job)))) (lentAs work os answer)
+  left-made lent s table′ n t size k =
       let j = k .job in
       let acc = accepted lent s j (k .place) (k .is) in
       let total : t .total ≡ totalOverflow j (plan j) = k .made .total-is ∙ sym (plan-total-is lent s j (k .place) (k .is)) in
       let most : t .maximum ≡ maxOverflow j (plan j) = k .made .maximum-is ∙ sym (plan-maximum-is lent s j (k .place) (k .is)) in
-      let entries = order-made lent j acc nets nets′ scores scores′ answer answer′ table′ t (k .made) few in
-      let layers = answer-made lent j acc nets nets′ scores scores′ answer answer′ table′ t (k .made) few in
+      let entries = order-made lent j acc nets nets′ scores scores′ answer answer′ table′ t (k .made) n (k .count) in
+      let layers = answer-made lent j acc nets nets′ scores scores′ answer answer′ table′ t (k .made) in
       λ i. record {
         returned = record { number = 0; line = 0; vias = k .made .placed .vias-are i; total = total i; maximum = most i };
-        buffers = record { working = again i; order = entries i; answer = layers i };
+        buffers = record { working = again i; order = overwrite (entries i) os; answer = layers i };
       }
 
 -- ---- Plan
 
 -- the lengths that are lent, as the call has them and as the definitions do; w is the cleared buffer
-module _ (work w nets scores answer : List ℕ) (clear : w ≡ replicate (length work) 0) where
+module _ (work w answer : List ℕ) (size : ℕ) (clear : w ≡ replicate (length work) 0) (os : List EntryOf) (long : length os ≡ size) where
   same-work : length work ≡ length w
   same-work = sym (ap length clear ∙ length-replicate (length work) 0)
 
-  lent-plan : planLent (buffersOf work nets scores answer) ≡ lentBy (length w) (min (length nets) (length scores)) (length answer) Absent
-  lent-plan = ap₂ {C = Lent} (λ x y. record { working = x; order = y; answer = length answer; print = none }) same-work (entries-long nets scores)
+  lent-plan : planLent (lentAs work os answer) ≡ lentBy (length w) size (length answer) Absent
+  lent-plan = ap₂ {C = Lent} (λ x y. record { working = x; order = y; answer = length answer; print = none }) same-work long
 
-  lent-print : (out : List ℕ) → printLent (buffersOf work nets scores answer) out ≡ lentBy (length w) (min (length nets) (length scores)) (length answer) (Bytes (length out))
-  lent-print out = ap₂ {C = Lent} (λ x y. record { working = x; order = y; answer = length answer; print = some (length out) }) same-work (entries-long nets scores)
+  lent-print : (out : List ℕ) → printLent (lentAs work os answer) out ≡ lentBy (length w) size (length answer) (Bytes (length out))
+  lent-print out = ap₂ {C = Lent} (λ x y. record { working = x; order = y; answer = length answer; print = some (length out) }) same-work long
 
-module _ (s work nets scores answer w nets′ scores′ answer′ table′ w′ : List ℕ) (clear : w ≡ replicate (length work) 0) (again : w′ ≡ replicate (length work) 0) where
-  abbrev lent : Lent
-  lent = lentBy (length w) (min (length nets) (length scores)) (length answer) Absent
+-- a job of this many nets fits the order list and the two lists
+module _ (s : List ℕ) (lent : Lent) (nets nets′ scores scores′ answer answer′ table′ : List ℕ) (n : ℕ) (t : Totals) (k : PlanFound s lent nets nets′ scores scores′ answer answer′ table′ n t) where
+  count-few : n ≤ lent .order
+  count-few = omega (arith, k .count, accepted lent s (k .job) (k .place) (k .is) .order-fits)
 
-  abbrev buffers : Buffers
-  buffers = buffersOf work nets scores answer
+  count-most : n ≤ 4096
+  count-most = omega (arith, k .count, accepted lent s (k .job) (k .place) (k .is) .net-count)
 
-  call-refused : (n l : ℕ) → read (planLent (buffersOf work nets scores answer)) s ≡ refused n l
-      → planCall s (buffersOf work nets scores answer) ≡ plannedBy (refusal n l) (buffersOf work nets scores answer)
+module _ (s work nets scores answer w nets′ scores′ answer′ table′ w′ : List ℕ) (size : ℕ) (clear : w ≡ replicate (length work) 0) (again : w′ ≡ replicate (length work) 0) where
+  call-refused : (os : List EntryOf) (n l : ℕ) → read (planLent (lentAs work os answer)) s ≡ refused n l → planCall s (lentAs work os answer) ≡ plannedBy (refusal n l) (lentAs work os answer)
   unfolding outcome
-  call-refused n l e = ap (λ (r : Result Job). plannedBy (outcomeOf r) buffers) e
+  call-refused os n l e = ap (λ (r : Result Job). plannedBy (outcomeOf r) (lentAs work os answer)) e
 
-  pub plan-refused : (o : Outcome) (r : Refusal) → o ≡ Refused r
-      → PlanTold s (lentBy (length w) (min (length nets) (length scores)) (length answer) Absent) nets nets′ scores scores′ answer answer′ table′ o
-      → (record { returned = returnedOf (RefusedBy r); buffers = buffersOf w′ nets′ scores′ answer′ } ≡ planCall s (buffersOf work nets scores answer)) × Beyond nets nets′ scores scores′
-  plan-refused o r e told = go (subst (PlanTold s lent nets nets′ scores scores′ answer answer′ table′) e told)
-    where
-      go : (read lent s ≡ refusedBy r) × NoPlan nets nets′ scores scores′ answer answer′
-          → (record { returned = returnedOf (RefusedBy r); buffers = buffersOf w′ nets′ scores′ answer′ } ≡ planCall s buffers) × Beyond nets nets′ scores scores′
-      go k = (
-        left-refused work nets scores answer w′ nets′ scores′ answer′ again r (k .1)
-            ∙ sym (call-refused (numberOf r) (lineOf r) (ap (λ (x : Lent). read x s) (lent-plan work w nets scores answer clear) ∙ k .0)),
-        beyond-refused work nets scores answer w′ nets′ scores′ answer′ again (k .1),
-      )
+  pub plan-left : (r : Outcome) → PlanTold s (lentBy (length w) size (length answer) Absent) nets nets′ scores scores′ answer answer′ table′ r
+      → PlanLeft s work w′ nets′ scores′ size answer answer′ r
+  plan-left (Refused r) k = record {
+    few = omega arith;
+    most = omega arith;
+    told = λ os long.
+        left-refused work nets scores answer w′ nets′ scores′ answer′ again os r (k .1)
+        ∙ sym (call-refused os (numberOf r) (lineOf r) (ap (λ (x : Lent). read x s) (lent-plan work w answer size clear os long) ∙ k .0));
+  }
+  plan-left (Made n t bytes) k = record {
+    few = count-few s (lentBy (length w) size (length answer) Absent) nets nets′ scores scores′ answer answer′ table′ n t k;
+    most = count-most s (lentBy (length w) size (length answer) Absent) nets nets′ scores scores′ answer answer′ table′ n t k;
+    told = λ os long.
+        left-made work nets scores answer w′ nets′ scores′ answer′ again os (lentBy (length w) size (length answer) Absent) s table′ n t bytes k
+        ∙ sym (plan-call s (lentAs work os answer) (k .job) (k .place) (ap (λ (x : Lent). read x s) (lent-plan work w answer size clear os long) ∙ k .is));
+  }
 
-  pub plan-made : (o : Outcome) (n : ℕ) (t : Totals) → o ≡ Made n t
-      → PlanTold s (lentBy (length w) (min (length nets) (length scores)) (length answer) Absent) nets nets′ scores scores′ answer answer′ table′ o
-      → (record { returned = returnedOf (PlanOf t); buffers = buffersOf w′ nets′ scores′ answer′ } ≡ planCall s (buffersOf work nets scores answer)) × Beyond nets nets′ scores scores′
-  plan-made o n t e told = go (subst (PlanTold s lent nets nets′ scores scores′ answer answer′ table′) e told)
-    where
-      go : PlanFound s lent nets nets′ scores scores′ answer answer′ table′ n t
-          → (record { returned = returnedOf (PlanOf t); buffers = buffersOf w′ nets′ scores′ answer′ } ≡ planCall s buffers) × Beyond nets nets′ scores scores′
-      go k =
-          let acc = accepted lent s (k .job) (k .place) (k .is) in (
-            left-made work nets scores answer w′ nets′ scores′ answer′ again lent s table′ n t k (acc .order-fits)
-                ∙ sym (plan-call s buffers (k .job) (k .place) (ap (λ (x : Lent). read x s) (lent-plan work w nets scores answer clear) ∙ k .is)),
-            beyond-made lent (k .job) acc nets nets′ scores scores′ answer answer′ table′ t (k .made) (acc .order-fits),
-          )
+-- the entries are written, and the answer is told: the whole call, and demand 3 of it
+module _ (s work work′ nets′ scores′ : List ℕ) (ys os : List Entry) (answer answer′ : List ℕ) (r : Outcome) (k : ℕ) (k-is : k ≡ countOf r)
+    (written : os ≡ overwrite (firstEntries nets′ scores′ k) ys) where
+  order-left : orderOf os ≡ entered nets′ scores′ r (orderOf ys)
+  order-left = ap orderOf (written ∙ ap (λ (m : ℕ). overwrite (firstEntries nets′ scores′ m) ys) k-is) ∙ order-over (firstEntries nets′ scores′ (countOf r)) ys
 
-  -- demand 3 holds of what is returned and left
-  pub plan-met : (r : Planned) → record { returned = returnedOf r; buffers = buffersOf w′ nets′ scores′ answer′ } ≡ planCall s (buffersOf work nets scores answer)
-      → (j : Job) (p : Place) → read (planLent (buffersOf work nets scores answer)) s ≡ found j p → Met j (returnedOf r) (buffersOf w′ nets′ scores′ answer′)
-  plan-met r e j p k = subst (λ (x : PlannedBy). Met j (x .returned) (x .buffers)) (sym e) (plan-meets-demand3 s buffers j p k)
+  plan-equals : (p : PlannedAs) → PlanLeft s work work′ nets′ scores′ (length ys) answer answer′ r → p ≡ plannedOf r
+      → record { returned = returnedOf p; buffers = buffersOf work′ os answer′ } ≡ planCall s (buffersOf work ys answer)
+  plan-equals p left p-is =
+      ap₂ {C = PlannedBy} (λ x y. record { returned = returnedOf x; buffers = lentAs work′ y answer′ }) p-is order-left
+      ∙ left .told (orderOf ys) (order-long ys)
+
+  pub plan-whole : (p : PlannedAs) → PlanLeft s work work′ nets′ scores′ (length ys) answer answer′ r → p ≡ plannedOf r
+      → (record { returned = returnedOf p; buffers = buffersOf work′ os answer′ } ≡ planCall s (buffersOf work ys answer))
+      × ((j : Job) (q : Place) → read (planLent (buffersOf work ys answer)) s ≡ found j q → Met j (returnedOf p) (buffersOf work′ os answer′))
+  plan-whole p left p-is = (
+    plan-equals p left p-is,
+    λ j q found-is. subst (λ (x : PlannedBy). Met j (x .returned) (x .buffers)) (sym (plan-equals p left p-is)) (plan-meets-demand3 s (buffersOf work ys answer) j q found-is),
+  )
+
+  print-equals : (out out′ : List ℕ) (p : PrintedAs) → PrintLeft s work work′ nets′ scores′ (length ys) answer answer′ out out′ r → p ≡ printedOf r
+      → record { returned = returnedOf (planOf p); length = sizeOf p; buffers = buffersOf work′ os answer′; print = out′ } ≡ printCall s (buffersOf work ys answer) out
+  print-equals out out′ p left p-is =
+      ap₂ {C = PrintedBy} (λ x y. record { returned = returnedOf (planOf x); length = sizeOf x; buffers = lentAs work′ y answer′; print = out′ }) p-is order-left
+      ∙ left .told (orderOf ys) (order-long ys)
+
+  pub print-whole : (out out′ : List ℕ) (p : PrintedAs) → PrintLeft s work work′ nets′ scores′ (length ys) answer answer′ out out′ r → p ≡ printedOf r
+      → (record { returned = returnedOf (planOf p); length = sizeOf p; buffers = buffersOf work′ os answer′; print = out′ } ≡ printCall s (buffersOf work ys answer) out)
+      × ((j : Job) (q : Place) → read (printLent (buffersOf work ys answer) out) s ≡ found j q → Met j (returnedOf (planOf p)) (buffersOf work′ os answer′))
+  print-whole out out′ p left p-is = (
+    print-equals out out′ p left p-is,
+    λ j q found-is. subst (λ (x : PrintedBy). Met j (x .returned) (x .buffers)) (sym (print-equals out out′ p left p-is)) (print-meets-demand3 s (buffersOf work ys answer) out j q found-is),
+  )
 
 -- ---- Print
 
@@ -194,15 +212,15 @@ module _ (s : List ℕ) (lent : Lent) (nets nets′ scores scores′ answer answ
   pub job-accepted : Accepted lent (k .job)
   job-accepted = accepted lent s (k .job) (k .place) (k .is)
 
-  order-count : length (map (λ (e : Entry). e .net) (order (k .job))) ≡ n
-  order-count = length-map {B = ℕ} (order (k .job)) (λ (e : Entry). e .net) ∙ order-long lent (k .job) job-accepted ∙ sym (k .count)
+  turns-count : length (map (λ (e : EntryOf). e .net) (order (k .job))) ≡ n
+  turns-count = length-map {B = ℕ} (order (k .job)) (λ (e : EntryOf). e .net) ∙ order-count lent (k .job) job-accepted ∙ sym (k .count)
 
   pub handed : Handed (k .job) n nets′ (t .vias) (t .total) (t .maximum)
   handed = record {
     count = k .count;
     turns =
         ap (take n) (k .made .ordered .numbers)
-        ∙ take-at (map (λ (e : Entry). e .net) (order (k .job))) (drop (length (map (λ (e : Entry). e .net) (order (k .job)))) nets) n order-count;
+        ∙ take-at (map (λ (e : EntryOf). e .net) (order (k .job))) (drop (length (map (λ (e : EntryOf). e .net) (order (k .job)))) nets) n turns-count;
     vias-told = k .made .placed .vias-are;
     total-told = k .made .total-is ∙ sym (plan-total-is lent s (k .job) (k .place) (k .is));
     most-told = k .made .maximum-is ∙ sym (plan-maximum-is lent s (k .job) (k .place) (k .is));
@@ -213,8 +231,8 @@ module _ (s : List ℕ) (lent : Lent) (nets nets′ scores scores′ answer answ
       omega (
         arith,
         ap length (k .made .ordered .numbers),
-        length-append (map (λ (e : Entry). e .net) (order (k .job))) (drop (length (map (λ (e : Entry). e .net) (order (k .job)))) nets),
-        order-count,
+        length-append (map (λ (e : EntryOf). e .net) (order (k .job))) (drop (length (map (λ (e : EntryOf). e .net) (order (k .job)))) nets),
+        turns-count,
       )
 
   pub rows-there : Rows n table′ answer′
@@ -234,46 +252,38 @@ module _ (s : List ℕ) (lent : Lent) (nets nets′ scores scores′ answer answ
 
     pub print-found : (out′ : List ℕ) (size : ℕ) → out′ ≡ sets out 0 (planText n nets′ table′ answer′ (t .vias) (t .total) (t .maximum))
         → size ≡ length (planText n nets′ table′ answer′ (t .vias) (t .total) (t .maximum))
-        → PrintFound s lent nets nets′ scores scores′ answer answer′ table′ out out′ t size
+        → PrintFound s lent nets nets′ scores scores′ answer answer′ table′ out out′ n t size
     print-found out′ size e l = record {
-      nets-count = n;
       planned = k;
       text-is = e ∙ plan-overwrites lent (k .job) job-accepted table′ answer′ (k .made .placed .held) n nets′ (t .vias) (t .total) (t .maximum) handed out print-room;
       size-is = l ∙ ap length text-is;
     }
 
-module _ (s work nets scores answer out w nets′ scores′ answer′ table′ w′ out′ : List ℕ) (clear : w ≡ replicate (length work) 0) (again : w′ ≡ replicate (length work) 0) where
+module _ (s work nets scores answer out w nets′ scores′ answer′ table′ w′ out′ : List ℕ) (size : ℕ) (clear : w ≡ replicate (length work) 0) (again : w′ ≡ replicate (length work) 0) where
   abbrev lentAll : Lent
-  lentAll = lentBy (length w) (min (length nets) (length scores)) (length answer) (Bytes (length out))
+  lentAll = lentBy (length w) size (length answer) (Bytes (length out))
 
-  abbrev all : Buffers
-  all = buffersOf work nets scores answer
-
-  printing-refused : (n l : ℕ) → read (printLent (buffersOf work nets scores answer) out) s ≡ refused n l
-      → printCall s (buffersOf work nets scores answer) out ≡ printedBy (refusal n l) (buffersOf work nets scores answer) out
+  printing-refused : (os : List EntryOf) (n l : ℕ) → read (printLent (lentAs work os answer) out) s ≡ refused n l
+      → printCall s (lentAs work os answer) out ≡ printedBy (refusal n l) (lentAs work os answer) out
   unfolding outcome
-  printing-refused n l e = ap (λ (r : Result Job). printedBy (outcomeOf r) all out) e
+  printing-refused os n l e = ap (λ (r : Result Job). printedBy (outcomeOf r) (lentAs work os answer) out) e
 
-  pub print-told : (r : Printed)
-      → PrintTold s (lentBy (length w) (min (length nets) (length scores)) (length answer) (Bytes (length out))) nets nets′ scores scores′ answer answer′ table′ out out′ r
-      → (record { returned = returnedOf (planOf r); length = sizeOf r; buffers = buffersOf w′ nets′ scores′ answer′; print = out′ } ≡ printCall s (buffersOf work nets scores answer) out)
-      × Beyond nets nets′ scores scores′
-  print-told (NotPrinted r) k =
-      let left = left-refused work nets scores answer w′ nets′ scores′ answer′ again r (k .1) in (
+  pub print-left : (r : Outcome) → PrintTold s (lentBy (length w) size (length answer) (Bytes (length out))) nets nets′ scores scores′ answer answer′ table′ out out′ r
+      → PrintLeft s work w′ nets′ scores′ size answer answer′ out out′ r
+  print-left (Refused r) k = record {
+    few = omega arith;
+    most = omega arith;
+    told = λ os long.
+        let left = left-refused work nets scores answer w′ nets′ scores′ answer′ again os r (k .1) in
         (λ i. record { returned = left i .returned; length = 0; buffers = left i .buffers; print = k .2 i })
-            ∙ sym (printing-refused (numberOf r) (lineOf r) (ap (λ (x : Lent). read x s) (lent-print work w nets scores answer clear out) ∙ k .0)),
-        beyond-refused work nets scores answer w′ nets′ scores′ answer′ again (k .1),
-      )
-  print-told (Print t size) k =
-      let f = k .planned in
-      let acc = accepted lentAll s (f .job) (f .place) (f .is) in
-      let left = left-made work nets scores answer w′ nets′ scores′ answer′ again lentAll s table′ (k .nets-count) t f (acc .order-fits) in (
+        ∙ sym (printing-refused os (numberOf r) (lineOf r) (ap (λ (x : Lent). read x s) (lent-print work w answer size clear os long out) ∙ k .0));
+  }
+  print-left (Made n t bytes) k = record {
+    few = count-few s lentAll nets nets′ scores scores′ answer answer′ table′ n t (k .planned);
+    most = count-most s lentAll nets nets′ scores scores′ answer answer′ table′ n t (k .planned);
+    told = λ os long.
+        let f = k .planned in
+        let left = left-made work nets scores answer w′ nets′ scores′ answer′ again os lentAll s table′ n t bytes f in
         (λ i. record { returned = left i .returned; length = k .size-is i; buffers = left i .buffers; print = k .text-is i })
-            ∙ sym (print-call s all out (f .job) (f .place) (ap (λ (x : Lent). read x s) (lent-print work w nets scores answer clear out) ∙ f .is)),
-        beyond-made lentAll (f .job) acc nets nets′ scores scores′ answer answer′ table′ t (f .made) (acc .order-fits),
-      )
-
-  pub print-met : (r : Printed)
-      → record { returned = returnedOf (planOf r); length = sizeOf r; buffers = buffersOf w′ nets′ scores′ answer′; print = out′ } ≡ printCall s (buffersOf work nets scores answer) out
-      → (j : Job) (p : Place) → read (printLent (buffersOf work nets scores answer) out) s ≡ found j p → Met j (returnedOf (planOf r)) (buffersOf w′ nets′ scores′ answer′)
-  print-met r e j p k = subst (λ (x : PrintedBy). Met j (x .returned) (x .buffers)) (sym e) (print-meets-demand3 s all out j p k)
+        ∙ sym (print-call s (lentAs work os answer) out (f .job) (f .place) (ap (λ (x : Lent). read x s) (lent-print work w answer size clear os long out) ∙ f .is));
+  }

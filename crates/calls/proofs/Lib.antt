@@ -1,2 +1,5 @@
-mod Steps
+mod Arrays
 mod Calls
+mod Entries
+pub mod Facts
+mod Steps

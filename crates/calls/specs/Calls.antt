@@ -1,37 +1,38 @@
 -- What a call returns and leaves in its lent storage, in the definitions' words.
 -- Assumes nothing.
-use mathlib.Core.List.{List, [], _∷_}
-use mathlib.Core.Path.{_≡_}
-use Prim.Native.Nat.{ℕ, min}
-use native.Mathlib.Omega.{arith}
-use lib.ListN.{length, drop}
+use mathlib.Core.List.{List, [], _∷_, _++_, map}
+use Prim.Native.Nat.{ℕ, zero, suc}
+use lib.ListN.{getD}
 use Rattle.model.specs.Calls.{Returned, Buffers}
-use Rattle.model.specs.Score.{Entry}
+use Rattle.model.specs.Score.{Entry as EntryOf}
 use Rattle.text.specs.Refusals.{numberOf, lineOf}
+use Rattle.calls.specs.declared.Entry.{Entry}
+use Rattle.calls.specs.declared.Outcome.{Outcome}
+use Rattle.calls.specs.declared.Outcome.the-variants.{Made, Refused as NotMade}
 use Rattle.calls.specs.declared.Planned.{Planned}
 use Rattle.calls.specs.declared.Planned.the-variants.{Plan, Refused}
 use Rattle.calls.specs.declared.Printed.{Printed}
 use Rattle.calls.specs.declared.Printed.the-variants.{Print, Refused as NotPrinted}
 
--- the order list, lent as two plain lists of which the shorter one counts
-abbrev pub entriesOf : List ℕ → List ℕ → List Entry
-entriesOf [] vs = []
-entriesOf (n ∷ ns) [] = []
-entriesOf (n ∷ ns) (v ∷ vs) = record { net = n; score = v } ∷ entriesOf ns vs
+-- ---- the order list
 
-pub entries-long : (ns vs : List ℕ) → length (entriesOf ns vs) ≡ min (length ns) (length vs)
-entries-long [] vs = omega arith
-entries-long (n ∷ ns) [] = omega arith
-entries-long (n ∷ ns) (v ∷ vs) = omega (arith, entries-long ns vs)
+-- "The order list holds a net number and a score in each entry": the lent entries as the definitions have them
+abbrev pub orderOf : List Entry → List EntryOf
+orderOf es = map (λ (e : Entry). record { net = e .net; score = e .score }) es
 
--- of the longer list, what lies beyond the shorter one is as it was
-pub record Beyond (nets nets′ scores scores′ : List ℕ) : Type 0 where
-  pub numbers : drop (length (entriesOf nets scores)) nets′ ≡ drop (length (entriesOf nets scores)) nets
-  pub values : drop (length (entriesOf nets scores)) scores′ ≡ drop (length (entriesOf nets scores)) scores
+-- entry k of two lists of numbers, and the first n entries
+abbrev pub entryAt : List ℕ → List ℕ → ℕ → Entry
+entryAt nets scores k = record { net = getD nets k 0; score = getD scores k 0 }
+
+abbrev pub firstEntries : List ℕ → List ℕ → ℕ → List Entry
+firstEntries nets scores zero = []
+firstEntries nets scores (suc k) = firstEntries nets scores k ++ (entryAt nets scores k ∷ [])
 
 -- what is lent to both calls
-abbrev pub buffersOf : List ℕ → List ℕ → List ℕ → List ℕ → Buffers
-buffersOf work nets scores answer = record { working = work; order = entriesOf nets scores; answer = answer }
+abbrev pub buffersOf : List ℕ → List Entry → List ℕ → Buffers
+buffersOf work order answer = record { working = work; order = orderOf order; answer = answer }
+
+-- ---- what is returned
 
 -- the five numbers of an answer: "number, line, total vias, total and maximum"
 abbrev pub returnedOf : Planned → Returned
@@ -46,3 +47,16 @@ planOf (NotPrinted r) = Refused r
 abbrev pub sizeOf : Printed → ℕ
 sizeOf (Print t size) = size
 sizeOf (NotPrinted r) = 0
+
+-- of an outcome: what each call returns, and how many entries of the order list there are to write
+abbrev pub printedOf : Outcome → Printed
+printedOf (Made n t size) = Print t size
+printedOf (NotMade r) = NotPrinted r
+
+abbrev pub plannedOf : Outcome → Planned
+plannedOf (Made n t size) = Plan t
+plannedOf (NotMade r) = Refused r
+
+abbrev pub countOf : Outcome → ℕ
+countOf (Made n t size) = n
+countOf (NotMade r) = 0

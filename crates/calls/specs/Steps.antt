@@ -7,20 +7,19 @@ use lib.ListN.{length}
 use Rattle.head.specs.declared.Head.{Head}
 use Rattle.lines.specs.Told.{refusedBy}
 use Rattle.model.specs.Job.{Job, netCount, entryCount}
-use Rattle.model.specs.Calls.{overwrite}
+use Rattle.model.specs.Calls.{Buffers, overwrite, Planned, planCall, Printed, printCall}
 use Rattle.model.specs.Overflow.{TO, limit}
 use Rattle.model.specs.Plan.{plan}
 use Rattle.model.specs.Print.{printed}
 use Rattle.model.specs.Read.{Lent, Place, found, read}
-use Rattle.model.specs.Score.{order}
+use Rattle.model.specs.Score.{Entry, order}
 use Rattle.net.specs.Checked.{Checked}
 use Rattle.order.specs.Ordered.{Ordered}
 use Rattle.placing.specs.Turns.{AllPlaced}
 use Rattle.theory.specs.links.Reading.{Accepted}
+use Rattle.calls.specs.Calls.{orderOf, firstEntries, returnedOf, planOf, sizeOf, printedOf, plannedOf, countOf}
 use Rattle.calls.specs.declared.Outcome.{Outcome}
 use Rattle.calls.specs.declared.Outcome.the-variants.{Made, Refused}
-use Rattle.calls.specs.declared.Printed.{Printed}
-use Rattle.calls.specs.declared.Printed.the-variants.{Print, Refused as NotPrinted}
 use Rattle.calls.specs.declared.Totals.{Totals}
 
 -- the job j is accepted and its text checked; the answer list has this length
@@ -53,24 +52,40 @@ pub record PlanFound (s : List ℕ) (lent : Lent) (nets nets′ scores scores′
   pub count : n ≡ netCount job
   pub made : PlanMade job nets nets′ scores scores′ answer answer′ table′ t
 
--- "order list, answer list [..] are unchanged" by a refusal
-pub record NoPlan (nets nets′ scores scores′ answer answer′ : List ℕ) : Type 0 where
-  pub nets-same : nets′ ≡ nets
-  pub scores-same : scores′ ≡ scores
-  pub answer-same : answer′ ≡ answer
-
+-- "answer list [..] unchanged" by a refusal
 abbrev pub PlanTold : List ℕ → Lent → List ℕ → List ℕ → List ℕ → List ℕ → List ℕ → List ℕ → List ℕ → Outcome → Type 0
-PlanTold s lent nets nets′ scores scores′ answer answer′ table′ (Refused r) = (read lent s ≡ refusedBy r) × NoPlan nets nets′ scores scores′ answer answer′
-PlanTold s lent nets nets′ scores scores′ answer answer′ table′ (Made n t) = PlanFound s lent nets nets′ scores scores′ answer answer′ table′ n t
+PlanTold s lent nets nets′ scores scores′ answer answer′ table′ (Refused r) = (read lent s ≡ refusedBy r) × (answer′ ≡ answer)
+PlanTold s lent nets nets′ scores scores′ answer answer′ table′ (Made n t size) = PlanFound s lent nets nets′ scores scores′ answer answer′ table′ n t
 
 -- the plan is made, and its print of this size stands at the start of the print buffer
-pub record PrintFound (s : List ℕ) (lent : Lent) (nets nets′ scores scores′ answer answer′ table′ out out′ : List ℕ) (t : Totals) (size : ℕ) : Type 0 where
-  pub nets-count : ℕ
-  pub planned : PlanFound s lent nets nets′ scores scores′ answer answer′ table′ nets-count t
+pub record PrintFound (s : List ℕ) (lent : Lent) (nets nets′ scores scores′ answer answer′ table′ out out′ : List ℕ) (n : ℕ) (t : Totals) (size : ℕ) : Type 0 where
+  pub planned : PlanFound s lent nets nets′ scores scores′ answer answer′ table′ n t
   pub text-is : out′ ≡ overwrite (printed (planned .job) (order (planned .job)) (plan (planned .job))) out
   pub size-is : size ≡ length (printed (planned .job) (order (planned .job)) (plan (planned .job)))
 
-abbrev pub PrintTold : List ℕ → Lent → List ℕ → List ℕ → List ℕ → List ℕ → List ℕ → List ℕ → List ℕ → List ℕ → List ℕ → Printed → Type 0
-PrintTold s lent nets nets′ scores scores′ answer answer′ table′ out out′ (NotPrinted r) =
-    (read lent s ≡ refusedBy r) × NoPlan nets nets′ scores scores′ answer answer′ × (out′ ≡ out)
-PrintTold s lent nets nets′ scores scores′ answer answer′ table′ out out′ (Print t size) = PrintFound s lent nets nets′ scores scores′ answer answer′ table′ out out′ t size
+abbrev pub PrintTold : List ℕ → Lent → List ℕ → List ℕ → List ℕ → List ℕ → List ℕ → List ℕ → List ℕ → List ℕ → List ℕ → Outcome → Type 0
+PrintTold s lent nets nets′ scores scores′ answer answer′ table′ out out′ (Refused r) = (read lent s ≡ refusedBy r) × (answer′ ≡ answer) × (out′ ≡ out)
+PrintTold s lent nets nets′ scores scores′ answer answer′ table′ out out′ (Made n t size) = PrintFound s lent nets nets′ scores scores′ answer answer′ table′ out out′ n t size
+
+-- ---- the whole call, but for the entries of the order list, which stand in two lists of numbers
+
+-- what is lent, with the order list as the definitions have it
+abbrev pub lentAs : List ℕ → List Entry → List ℕ → Buffers
+lentAs work os answer = record { working = work; order = os; answer = answer }
+
+-- an order list os of this size, once the entries that the two lists hold are written at its start
+abbrev pub entered : List ℕ → List ℕ → Outcome → List Entry → List Entry
+entered nets scores r os = overwrite (orderOf (firstEntries nets scores (countOf r))) os
+
+pub record PlanLeft (s work work′ nets′ scores′ : List ℕ) (size : ℕ) (answer answer′ : List ℕ) (r : Outcome) : Type 0 where
+  pub few : countOf r ≤ size
+  pub most : countOf r ≤ 4096
+  pub told : (os : List Entry) → length os ≡ size
+      → _≡_ {A = Planned} (record { returned = returnedOf (plannedOf r); buffers = lentAs work′ (entered nets′ scores′ r os) answer′ }) (planCall s (lentAs work os answer))
+
+pub record PrintLeft (s work work′ nets′ scores′ : List ℕ) (size : ℕ) (answer answer′ out out′ : List ℕ) (r : Outcome) : Type 0 where
+  pub few : countOf r ≤ size
+  pub most : countOf r ≤ 4096
+  pub told : (os : List Entry) → length os ≡ size
+      → _≡_ {A = Printed} (record { returned = returnedOf (planOf (printedOf r)); length = sizeOf (printedOf r); buffers = lentAs work′ (entered nets′ scores′ r os) answer′; print = out′ })
+      (printCall s (lentAs work os answer) out)

@@ -1,10 +1,11 @@
 // Both calls under the names that C and Rust link: include/layerplan.h declares them. A slice is passed as pointer and length.
+use calls::Entry;
 use calls::Planned;
 use calls::Printed;
 use calls::Totals;
 use text::Refusal;
 ghost use mathlib.Core.Path.{_≡_};
-ghost use Rattle.calls.specs.Calls.{buffersOf, Beyond, returnedOf};
+ghost use Rattle.calls.specs.Calls.{buffersOf, returnedOf};
 ghost use Rattle.calls.specs.declared.Planned.the-variants.{Plan, Refused};
 ghost use Rattle.model.specs.Calls.{planLent, planCall, printLent, printCall};
 ghost use Rattle.model.specs.Demand3.{Met};
@@ -75,30 +76,26 @@ fn print_result(p: Printed) -> LayerplanResult
 pub extern "C" fn layerplan_plan(
     text: &[u8],
     work: &mut [u32],
-    nets: &mut [u32],
-    scores: &mut [u64],
+    order: &mut [Entry],
     answer: &mut [u8],
 ) -> LayerplanResult
-    ensures { λ r. ⌜ record { returned = toldBy r; buffers = buffersOf (now (work .exit)) (now (nets .exit)) (now (scores .exit)) (now (answer .exit)) } ≡ planCall (now (text .entry)) (buffersOf (now (work .entry)) (now (nets .entry)) (now (scores .entry)) (now (answer .entry))) ⌝ }
+    ensures { λ r. ⌜ record { returned = toldBy r; buffers = buffersOf (now (work .exit)) (now (order .exit)) (now (answer .exit)) } ≡ planCall (now (text .entry)) (buffersOf (now (work .entry)) (now (order .entry)) (now (answer .entry))) ⌝ }
     ensures { λ r. ⌜ r .length ≡ 0 ⌝ }
-    ensures { λ _. ⌜ Beyond (now (nets .entry)) (now (nets .exit)) (now (scores .entry)) (now (scores .exit)) ⌝ }
-    ensures { λ r. ⌜ ((j : Job) (p : Place) → read (planLent (buffersOf (now (work .entry)) (now (nets .entry)) (now (scores .entry)) (now (answer .entry)))) (now (text .entry)) ≡ found j p → Met j (toldBy r) (buffersOf (now (work .exit)) (now (nets .exit)) (now (scores .exit)) (now (answer .exit)))) ⌝ }
+    ensures { λ r. ⌜ ((j : Job) (p : Place) → read (planLent (buffersOf (now (work .entry)) (now (order .entry)) (now (answer .entry)))) (now (text .entry)) ≡ found j p → Met j (toldBy r) (buffersOf (now (work .exit)) (now (order .exit)) (now (answer .exit)))) ⌝ }
 {
-    plan_result(calls::plan(text, work, nets, scores, answer))
+    plan_result(calls::plan(text, work, order, answer))
 }
 
 #[no_mangle]
 pub extern "C" fn layerplan_print(
     text: &[u8],
     work: &mut [u32],
-    nets: &mut [u32],
-    scores: &mut [u64],
+    order: &mut [Entry],
     answer: &mut [u8],
     out: &mut [u8],
 ) -> LayerplanResult
-    ensures { λ r. ⌜ record { returned = toldBy r; length = r .length; buffers = buffersOf (now (work .exit)) (now (nets .exit)) (now (scores .exit)) (now (answer .exit)); print = now (out .exit) } ≡ printCall (now (text .entry)) (buffersOf (now (work .entry)) (now (nets .entry)) (now (scores .entry)) (now (answer .entry))) (now (out .entry)) ⌝ }
-    ensures { λ _. ⌜ Beyond (now (nets .entry)) (now (nets .exit)) (now (scores .entry)) (now (scores .exit)) ⌝ }
-    ensures { λ r. ⌜ ((j : Job) (p : Place) → read (printLent (buffersOf (now (work .entry)) (now (nets .entry)) (now (scores .entry)) (now (answer .entry))) (now (out .entry))) (now (text .entry)) ≡ found j p → Met j (toldBy r) (buffersOf (now (work .exit)) (now (nets .exit)) (now (scores .exit)) (now (answer .exit)))) ⌝ }
+    ensures { λ r. ⌜ record { returned = toldBy r; length = r .length; buffers = buffersOf (now (work .exit)) (now (order .exit)) (now (answer .exit)); print = now (out .exit) } ≡ printCall (now (text .entry)) (buffersOf (now (work .entry)) (now (order .entry)) (now (answer .entry))) (now (out .entry)) ⌝ }
+    ensures { λ r. ⌜ ((j : Job) (p : Place) → read (printLent (buffersOf (now (work .entry)) (now (order .entry)) (now (answer .entry))) (now (out .entry))) (now (text .entry)) ≡ found j p → Met j (toldBy r) (buffersOf (now (work .exit)) (now (order .exit)) (now (answer .exit)))) ⌝ }
 {
-    print_result(calls::print(text, work, nets, scores, answer, out))
+    print_result(calls::print(text, work, order, answer, out))
 }

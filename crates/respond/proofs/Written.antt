@@ -3,18 +3,19 @@
 use mathlib.Core.List.{List}
 use mathlib.Core.Option.{some}
 use mathlib.Core.Path.{_≡_, sym, ap, ap₂, _∙_}
-use Prim.Native.Nat.{ℕ, _≤_, _<_, _^_, min}
+use Prim.Native.Nat.{ℕ, _≤_, _<_, _^_}
 use native.Mathlib.Omega.{arith}
 use borrow.Author.Tests.{le-leb, lt-leb}
 use lib.ListN.{length, drop, replicate, length-append, length-replicate}
 use lib.Seq.{sets}
-use Rattle.calls.specs.Calls.{buffersOf, entries-long}
-use Rattle.calls.specs.declared.Printed.{Printed}
-use Rattle.calls.specs.declared.Printed.the-variants.{Print, Refused}
+use Rattle.calls.specs.Steps.{lentAs, entered, PrintLeft}
+use Rattle.calls.specs.declared.Outcome.{Outcome}
+use Rattle.calls.specs.declared.Outcome.the-variants.{Made, Refused}
 use Rattle.calls.specs.declared.Totals.{Totals}
 use Rattle.model.specs.Calls.{refusal, outcome, Buffers, overwrite, printLent, printCall}
 use Rattle.model.specs.Program.{programLent, written, program}
 use Rattle.model.specs.Read.{Lent}
+use Rattle.model.specs.Score.{Entry}
 use Rattle.print.specs.Refusal.{refusal-most}
 use Rattle.print.specs.Wrote.{sets-overwrite}
 use Rattle.text.specs.Refusals.{numberOf, lineOf}
@@ -42,33 +43,39 @@ module _ (out : List ℕ) (room : 50 ≤ length out) (f : Refusal) (n l : ℕ) (
 pub too-long : (input : List ℕ) → 65536 < length input → program input ≡ written (refusal 1 0)
 too-long input h = rw (lt-leb (length input) 65536 h)
 
+-- the order list that is lent holds nothing that is read
+abbrev pub blanks : List Entry
+blanks = replicate 4096 (record { net = 0; score = 0 })
+
 module _ (input out : List ℕ) (size : length out ≡ 65536) (short : length input ≤ 65536) where
   abbrev b : Buffers
-  b = buffersOf (replicate 16384 0) (replicate 4096 0) (replicate 4096 0) (replicate 65536 0)
+  b = lentAs (replicate 16384 0) blanks (replicate 65536 0)
 
-  lent-is : printLent (buffersOf (replicate 16384 0) (replicate 4096 0) (replicate 4096 0) (replicate 65536 0)) out ≡ programLent
-  lent-is =
-      let order : length (b .order) ≡ 4096 =
-      entries-long (replicate 4096 0) (replicate 4096 0) ∙ ap₂ min (length-replicate {A = ℕ} 4096 0) (length-replicate {A = ℕ} 4096 0) in
-      lents (length-replicate {A = ℕ} 16384 0) order (length-replicate {A = ℕ} 65536 0) size
+  lent-is : printLent (lentAs (replicate 16384 0) blanks (replicate 65536 0)) out ≡ programLent
+  lent-is = lents (length-replicate {A = ℕ} 16384 0) (length-replicate {A = Entry} 4096 (record { net = 0; score = 0 })) (length-replicate {A = ℕ} 65536 0) size
     where
       lents : {w o a p w′ o′ a′ p′ : ℕ} → w ≡ w′ → o ≡ o′ → a ≡ a′ → p ≡ p′
           → _≡_ {A = Lent} (record { working = w; order = o; answer = a; print = some p }) (record { working = w′; order = o′; answer = a′; print = some p′ })
       lents x y z q i = record { working = x i; order = y i; answer = z i; print = some (q i) }
 
-  program-is : program input ≡ written (outcome (printLent (buffersOf (replicate 16384 0) (replicate 4096 0) (replicate 4096 0) (replicate 65536 0)) out) input)
+  program-is : program input ≡ written (outcome (printLent (lentAs (replicate 16384 0) blanks (replicate 65536 0)) out) input)
   program-is = rw (le-leb (length input) 65536 short) (ap (λ (l : Lent). written (outcome l input)) (sym lent-is))
 
-  module _ (bs : Buffers) (out′ : List ℕ) (r : Printed)
-      (told : answer r bs out′ ≡ printCall input (buffersOf (replicate 16384 0) (replicate 4096 0) (replicate 4096 0) (replicate 65536 0)) out) where
+  module _ (work′ nets′ scores′ answer′ out′ : List ℕ) (r : Outcome) (left : PrintLeft input (replicate 16384 0) work′ nets′ scores′ 4096 (replicate 65536 0) answer′ out out′ r) where
+    abbrev bs : Buffers
+    bs = lentAs work′ (entered nets′ scores′ r blanks) answer′
+
+    told : answer r (lentAs work′ (entered nets′ scores′ r blanks) answer′) out′ ≡ printCall input (lentAs (replicate 16384 0) blanks (replicate 65536 0)) out
+    told = left .told blanks (length-replicate {A = Entry} 4096 (record { net = 0; score = 0 }))
+
     pub program-refused : (f : Refusal) → r ≡ Refused f → (program input ≡ written (refusal (numberOf f) (lineOf f))) × (out′ ≡ out)
     program-refused f e =
         let k = refused-told input b out bs out′ r told f e in
         (program-is ∙ ap written (k .0), k .1)
 
-    pub program-printed : (t : Totals) (n : ℕ) → r ≡ Print t n → (out′ ≡ overwrite (program input) out) × (n ≡ length (program input))
-    program-printed t n e =
-        let k = printed-told input b out bs out′ r told t n e in
+    pub program-printed : (n : ℕ) (t : Totals) (bytes : ℕ) → r ≡ Made n t bytes → (out′ ≡ overwrite (program input) out) × (bytes ≡ length (program input))
+    program-printed n t bytes e =
+        let k = printed-told input b out bs out′ r told n t bytes e in
         (k .0 ∙ ap (λ (l : List ℕ). overwrite l out) (sym program-is), k .1 ∙ ap length (sym program-is))
 
 -- the text is inside the buffer

@@ -5,9 +5,9 @@ use mathlib.Core.Path.{_≡_, refl, sym, ap, ap₂, subst}
 use Prim.Native.Nat.{ℕ, _≤_}
 use native.Mathlib.Omega.{arith}
 use lib.ListN.{length}
-use Rattle.calls.specs.Calls.{returnedOf, planOf, sizeOf}
-use Rattle.calls.specs.declared.Printed.{Printed}
-use Rattle.calls.specs.declared.Printed.the-variants.{Print, Refused}
+use Rattle.calls.specs.Calls.{returnedOf, planOf, sizeOf, printedOf}
+use Rattle.calls.specs.declared.Outcome.{Outcome as OutcomeOf}
+use Rattle.calls.specs.declared.Outcome.the-variants.{Made, Refused}
 use Rattle.calls.specs.declared.Totals.{Totals}
 use Rattle.model.specs.Calls.{Outcome, refusal, outcomeOf, outcome, Buffers, overwrite, Printed as PrintedBy, printedBy, printLent, printCall}
 use Rattle.model.specs.Job.{Job}
@@ -34,14 +34,14 @@ some-number (Order l) = omega arith
 some-number (Short l) = omega arith
 
 -- what Print returned and left, as its contract has it
-abbrev pub answer : Printed → Buffers → List ℕ → PrintedBy
-answer r bs out = record { returned = returnedOf (planOf r); length = sizeOf r; buffers = bs; print = out }
+abbrev pub answer : OutcomeOf → Buffers → List ℕ → PrintedBy
+answer r bs out = record { returned = returnedOf (planOf (printedOf r)); length = sizeOf (printedOf r); buffers = bs; print = out }
 
-module _ (s : List ℕ) (b : Buffers) (out : List ℕ) (bs : Buffers) (out′ : List ℕ) (r : Printed) (told : answer r bs out′ ≡ printCall s b out) where
+module _ (s : List ℕ) (b : Buffers) (out : List ℕ) (bs : Buffers) (out′ : List ℕ) (r : OutcomeOf) (told : answer r bs out′ ≡ printCall s b out) where
   -- it refused the text
   pub refused-told : (f : Refusal) → r ≡ Refused f → (outcome (printLent b out) s ≡ refusal (numberOf f) (lineOf f)) × (out′ ≡ out)
   unfolding outcome
-  refused-told f e = go (read (printLent b out) s) (subst (λ (x : Printed). answer x bs out′ ≡ printedBy (outcomeOf (read (printLent b out) s)) b out) e told)
+  refused-told f e = go (read (printLent b out) s) (subst (λ (x : OutcomeOf). answer x bs out′ ≡ printedBy (outcomeOf (read (printLent b out) s)) b out) e told)
     where
       go : (x : Result Job) → answer (Refused f) bs out′ ≡ printedBy (outcomeOf x) b out → (outcomeOf x ≡ refusal (numberOf f) (lineOf f)) × (out′ ≡ out)
       go (refused n l) k = (
@@ -51,13 +51,13 @@ module _ (s : List ℕ) (b : Buffers) (out : List ℕ) (bs : Buffers) (out′ : 
       go (found j p) k = absurd (omega (arith, some-number f, ap (λ (p : PrintedBy). p .returned .number) k))
 
   -- it wrote the print
-  pub printed-told : (t : Totals) (size : ℕ) → r ≡ Print t size
+  pub printed-told : (n : ℕ) (t : Totals) (size : ℕ) → r ≡ Made n t size
       → (out′ ≡ overwrite (written (outcome (printLent b out) s)) out) × (size ≡ length (written (outcome (printLent b out) s)))
   unfolding outcome
-  printed-told t size e =
-      go (read (printLent b out) s) refl (subst (λ (x : Printed). answer x bs out′ ≡ printedBy (outcomeOf (read (printLent b out) s)) b out) e told)
+  printed-told n t size e =
+      go (read (printLent b out) s) refl (subst (λ (x : OutcomeOf). answer x bs out′ ≡ printedBy (outcomeOf (read (printLent b out) s)) b out) e told)
     where
-      go : (x : Result Job) → read (printLent b out) s ≡ x → answer (Print t size) bs out′ ≡ printedBy (outcomeOf x) b out
+      go : (x : Result Job) → read (printLent b out) s ≡ x → answer (Made n t size) bs out′ ≡ printedBy (outcomeOf x) b out
           → (out′ ≡ overwrite (written (outcomeOf x)) out) × (size ≡ length (written (outcomeOf x)))
-      go (refused n l) h k = absurd (omega (arith, number-range (printLent b out) s n l h, ap (λ (p : PrintedBy). p .returned .number) k))
+      go (refused m l) h k = absurd (omega (arith, number-range (printLent b out) s m l h, ap (λ (p : PrintedBy). p .returned .number) k))
       go (found j p) h k = (ap (λ (p : PrintedBy). p .print) k, ap (λ (p : PrintedBy). p .length) k)

@@ -1,5 +1,5 @@
 // What the program writes: the printed plan of the job in its input, or the line of its refusal.
-use calls::Printed;
+use calls::Outcome;
 use text::Refusal;
 ghost use mathlib.Core.Path.{_≡_};
 ghost use Prim.Native.Nat.{_≤_};
@@ -10,6 +10,9 @@ ghost use Rattle.text.specs.Refusals.{numberOf, lineOf};
 
 // "reads standard input of at most 65,536 bytes (more gives 1, 0)"
 pub const MOST_INPUT: usize = 65536;
+
+// "It lends [..] 4,096 order entries"
+const ENTRIES: usize = 4096;
 
 // Writes the line of a refusal.
 fn refuse(out: &mut [u8], r: Refusal) -> usize
@@ -22,7 +25,7 @@ fn refuse(out: &mut [u8], r: Refusal) -> usize
     print::put_refusal(out, number, line)
 }
 
-// The text for an input, at the start of `out`, and its length.
+// The text for an input, at the start of `out`, and its length. The program reads no entry of the order list, so it lends Print's two lists and no entries.
 pub fn respond(input: &[u8], out: &mut [u8]) -> usize
     requires { ⌜ length (now out) ≡ 65536 ⌝ }
     ensures { λ _. ⌜ now (out .exit) ≡ overwrite (program (now (input .entry))) (now (out .entry)) ⌝ }
@@ -36,8 +39,16 @@ pub fn respond(input: &[u8], out: &mut [u8]) -> usize
     let mut nets = [0u32; 4096];
     let mut scores = [0u64; 4096];
     let mut answer = [0u8; 65536];
-    match calls::print(input, &mut work, &mut nets, &mut scores, &mut answer, out) {
-        Printed::Refused(r) => refuse(out, r),
-        Printed::Print(_, size) => size,
+    match calls::print_lists(
+        input,
+        &mut work,
+        &mut nets,
+        &mut scores,
+        ENTRIES,
+        &mut answer,
+        out,
+    ) {
+        Outcome::Refused(r) => refuse(out, r),
+        Outcome::Made(_, _, size) => size,
     }
 }

@@ -9,9 +9,9 @@ fn main() -> Result<(), Box<dyn std::error::Error>> {
     let text = std::fs::read(file)?;
     let enough = Lengths::enough(text.len());
     let mut work = vec![0; enough.work];
-    let (mut nets, mut scores) = (vec![0; enough.order], vec![0; enough.order]);
+    let mut order = vec![layerplan::Entry::default(); enough.order];
     let (mut answer, mut out) = (vec![0; enough.answer], vec![0; enough.print]);
-    match layerplan::print(&text, &mut work, &mut nets, &mut scores, &mut answer, &mut out) {
+    match layerplan::print(&text, &mut work, &mut order, &mut answer, &mut out) {
         Ok(printed) => std::io::stdout().write_all(&out[..printed.length])?,
         Err(refusal) => println!("{refusal}"),
     }

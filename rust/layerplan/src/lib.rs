@@ -16,18 +16,20 @@
 //!     nets=1\nnet=1\npins=0,0,2;1,0,2\nedges=0,0,e\n";
 //! let need = layerplan::Lengths::needed(2, 1, 2, 1, 1);
 //! let mut work = vec![0; need.work];
-//! let (mut nets, mut scores) = (vec![0; need.order], vec![0; need.order]);
+//! let mut order = vec![layerplan::Entry::default(); need.order];
 //! let mut answer = vec![0; need.answer];
-//! let totals = layerplan::plan(text, &mut work, &mut nets, &mut scores, &mut answer)?;
+//! let totals = layerplan::plan(text, &mut work, &mut order, &mut answer)?;
 //! assert_eq!(answer, [1]); // the one track is on layer 1, so each pin on layer 2 takes a via
 //! assert_eq!(totals, layerplan::Totals { vias: 2, overflow: 0, maximum: 0 });
-//! assert_eq!((nets, scores), (vec![1], vec![3000]));
+//! assert_eq!(order, [layerplan::Entry { net: 1, score: 3000 }]);
 //! # Ok::<(), layerplan::Refusal>(())
 //! ```
 
 use std::fmt;
 
 pub mod sys;
+
+pub use sys::Entry;
 
 /// The longest text that is read, in bytes.
 pub const TEXT_MOST: usize = 1_048_576;
@@ -88,7 +90,7 @@ impl std::error::Error for Refusal {}
 pub struct Lengths {
     /// Working numbers.
     pub work: usize,
-    /// Entries of the order list: the length of `nets` and of `scores`.
+    /// Entries of the order list.
     pub order: usize,
     /// Bytes of the answer list.
     pub answer: usize,
@@ -134,19 +136,11 @@ fn told(r: sys::LayerplanResult) -> Result<Totals, Refusal> {
 /// Plan: reads the job text and finds the layer of every edge of every net.
 ///
 /// - `work`: working numbers. What they held is of no account; after every call, refused or not, all are 0.
-/// - `nets`, `scores`: the order list. Net numbers in placing order, and at the same places their scores. The shorter
-///   of the two slices counts as the length of the order list.
+/// - `order`: the order list, the nets with their scores in placing order.
 /// - `answer`: the layers, nets in job order, each net's layers in the order of its `edges` line.
 ///
-/// What lies beyond the needed part of `nets`, `scores` and `answer` stays as it was. A refused job leaves all three as
-/// they were.
-pub fn plan(
-    text: &[u8],
-    work: &mut [u32],
-    nets: &mut [u32],
-    scores: &mut [u64],
-    answer: &mut [u8],
-) -> Result<Totals, Refusal> {
+/// What lies beyond the needed part of `order` and `answer` stays as it was. A refused job leaves both as they were.
+pub fn plan(text: &[u8], work: &mut [u32], order: &mut [Entry], answer: &mut [u8]) -> Result<Totals, Refusal> {
     // SAFETY: a slice's pointer is never null, also of an empty one, it is aligned, and it points to as many elements as
     // the slice's length says. The slices that are written are borrowed mutably, so they overlap nothing and nobody
     // else uses them. The library asks no more: its calls are proved for every text and all lengths.
@@ -156,10 +150,8 @@ pub fn plan(
             text.len(),
             work.as_mut_ptr(),
             work.len(),
-            nets.as_mut_ptr(),
-            nets.len(),
-            scores.as_mut_ptr(),
-            scores.len(),
+            order.as_mut_ptr(),
+            order.len(),
             answer.as_mut_ptr(),
             answer.len(),
         )
@@ -171,8 +163,7 @@ pub fn plan(
 pub fn print(
     text: &[u8],
     work: &mut [u32],
-    nets: &mut [u32],
-    scores: &mut [u64],
+    order: &mut [Entry],
     answer: &mut [u8],
     out: &mut [u8],
 ) -> Result<Printed, Refusal> {
@@ -183,10 +174,8 @@ pub fn print(
             text.len(),
             work.as_mut_ptr(),
             work.len(),
-            nets.as_mut_ptr(),
-            nets.len(),
-            scores.as_mut_ptr(),
-            scores.len(),
+            order.as_mut_ptr(),
+            order.len(),
             answer.as_mut_ptr(),
             answer.len(),
             out.as_mut_ptr(),

@@ -13,6 +13,14 @@ pub struct LayerplanResult {
     pub length: u64,
 }
 
+/// An entry of the order list: the number of a net, from 1, and its score.
+#[repr(C)]
+#[derive(Clone, Copy, PartialEq, Eq, Debug, Default)]
+pub struct Entry {
+    pub net: u32,
+    pub score: u64,
+}
+
 extern "C" {
     /// Plan, over pointers and lengths.
     ///
@@ -25,10 +33,8 @@ extern "C" {
         text_length: usize,
         work: *mut u32,
         work_length: usize,
-        nets: *mut u32,
-        nets_length: usize,
-        scores: *mut u64,
-        scores_length: usize,
+        order: *mut Entry,
+        order_length: usize,
         answer: *mut u8,
         answer_length: usize,
     ) -> LayerplanResult;
@@ -43,10 +49,8 @@ extern "C" {
         text_length: usize,
         work: *mut u32,
         work_length: usize,
-        nets: *mut u32,
-        nets_length: usize,
-        scores: *mut u64,
-        scores_length: usize,
+        order: *mut Entry,
+        order_length: usize,
         answer: *mut u8,
         answer_length: usize,
         print: *mut u8,

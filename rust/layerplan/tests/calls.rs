@@ -1,16 +1,17 @@
 //! Both calls on the example job and on refused ones.
 
-use layerplan::{plan, print, Lengths, Printed, Refusal, Totals, NETS_MOST, TEXT_MOST};
+use layerplan::{plan, print, Entry, Lengths, Printed, Refusal, Totals, NETS_MOST, TEXT_MOST};
 
 const JOB: &[u8] = include_bytes!("../../../examples/three-tiles.job");
 const PLAN: &[u8] = include_bytes!("../../../examples/three-tiles.plan");
 const TOTALS: Totals = Totals { vias: 2, overflow: 0, maximum: 0 };
 
+const FILLED: Entry = Entry { net: 77, score: 88 };
+
 /// Slices to lend, all filled with something.
 struct Lent {
     work: Vec<u32>,
-    nets: Vec<u32>,
-    scores: Vec<u64>,
+    order: Vec<Entry>,
     answer: Vec<u8>,
     out: Vec<u8>,
 }
@@ -19,24 +20,23 @@ impl Lent {
     fn new(lengths: Lengths) -> Lent {
         Lent {
             work: vec![0xa5a5_a5a5; lengths.work],
-            nets: vec![77; lengths.order],
-            scores: vec![88; lengths.order],
+            order: vec![FILLED; lengths.order],
             answer: vec![99; lengths.answer],
             out: vec![b'.'; lengths.print],
         }
     }
 
     fn plan(&mut self, text: &[u8]) -> Result<Totals, Refusal> {
-        plan(text, &mut self.work, &mut self.nets, &mut self.scores, &mut self.answer)
+        plan(text, &mut self.work, &mut self.order, &mut self.answer)
     }
 
     fn print(&mut self, text: &[u8]) -> Result<Printed, Refusal> {
-        print(text, &mut self.work, &mut self.nets, &mut self.scores, &mut self.answer, &mut self.out)
+        print(text, &mut self.work, &mut self.order, &mut self.answer, &mut self.out)
     }
 
     /// That nothing was written but the working numbers, which are 0.
     fn untouched(&self) -> bool {
-        let lists = self.nets.iter().all(|net| *net == 77) && self.scores.iter().all(|score| *score == 88);
+        let lists = self.order.iter().all(|entry| *entry == FILLED);
         let bytes = self.answer.iter().all(|layer| *layer == 99) && self.out.iter().all(|byte| *byte == b'.');
         self.work.iter().all(|number| *number == 0) && lists && bytes
     }
@@ -60,14 +60,13 @@ fn the_example() {
         let mut lent = Lent::new(lengths);
         assert_eq!(lent.print(JOB), Ok(Printed { totals: TOTALS, length: PLAN.len() }));
         assert_eq!(lent.work, vec![0; lengths.work]);
-        assert_eq!(lent.nets, [&[2, 1][..], &vec![77; more]].concat());
-        assert_eq!(lent.scores, [&[3000, 2500][..], &vec![88; more]].concat());
+        let order = [Entry { net: 2, score: 3000 }, Entry { net: 1, score: 2500 }];
+        assert_eq!(lent.order, [&order[..], &vec![FILLED; more]].concat());
         assert_eq!(lent.answer, [&[2, 1, 1][..], &vec![99; more]].concat());
         assert_eq!(lent.out[..PLAN.len()], *PLAN);
         assert!(lent.out[PLAN.len()..].iter().all(|byte| *byte == b'.'));
 
-        assert_eq!((planned.work, planned.nets), (lent.work, lent.nets));
-        assert_eq!((planned.scores, planned.answer), (lent.scores, lent.answer));
+        assert_eq!((planned.work, planned.order, planned.answer), (lent.work, lent.order, lent.answer));
     }
 }
 
@@ -88,26 +87,11 @@ fn too_short() {
 }
 
 #[test]
-fn the_shorter_list_counts() {
-    let need = Lengths::needed(3, 1, 2, 2, 3);
-    for (nets, scores) in [(1, 2), (2, 1), (0, 5), (5, 0)] {
-        let mut lent = Lent::new(need);
-        (lent.nets, lent.scores) = (vec![77; nets], vec![88; scores]);
-        assert_eq!(lent.plan(JOB), Err(Refusal { number: 10, line: 11 }));
-        assert!(lent.untouched());
-    }
-    let mut lent = Lent::new(need);
-    (lent.nets, lent.scores) = (vec![77; 4], vec![88; 3]);
-    assert_eq!(lent.plan(JOB), Ok(TOTALS));
-    assert_eq!((lent.nets, lent.scores), (vec![2, 1, 77, 77], vec![3000, 2500, 88]));
-}
-
-#[test]
 fn empty_slices() {
     let empty = || Lent::new(Lengths { work: 0, order: 0, answer: 0, print: 0 });
     assert_eq!(empty().plan(b""), Err(Refusal { number: 2, line: 1 }));
     assert_eq!(empty().print(b""), Err(Refusal { number: 2, line: 1 }));
-    assert_eq!(plan(&[], &mut [], &mut [], &mut [], &mut []), Err(Refusal { number: 2, line: 1 }));
+    assert_eq!(plan(&[], &mut [], &mut [], &mut []), Err(Refusal { number: 2, line: 1 }));
     assert_eq!(empty().plan(JOB), Err(Refusal { number: 9, line: 3 }));
 
     // one tile and no nets: order list and answer list may be empty
@@ -157,7 +141,7 @@ fn lengths() {
     assert!(Lent::new(Lengths::enough(text.len())).print(text.as_bytes()).is_ok());
 }
 
-/// A job of the largest grid in a thread with a small stack: a call takes about 100 KB of it.
+/// A job of the largest grid in a thread with a small stack: a call takes about 150 KB of it.
 #[test]
 fn little_stack() {
     let list = |count: usize| vec!["1"; count].join(",");
@@ -170,6 +154,6 @@ fn little_stack() {
         let mut lent = Lent::new(Lengths::needed(64, 64, 8, 1, 63));
         lent.print(text.as_bytes()).map(|printed| printed.totals)
     };
-    let thread = std::thread::Builder::new().stack_size(128 * 1024).spawn(run).unwrap();
+    let thread = std::thread::Builder::new().stack_size(160 * 1024).spawn(run).unwrap();
     assert_eq!(thread.join().unwrap(), Ok(Totals { vias: 7, overflow: 0, maximum: 0 }));
 }

@@ -25,8 +25,7 @@ struct Run {
     drawn: Summary,
     /// Largest jobs, all accepted.
     largest: usize,
-    /// Calls with two lists of unequal length, and calls through the Rust wrapper.
-    uneven: usize,
+    /// Calls through the Rust wrapper.
     wrapped: usize,
     /// Jobs and nets whose walks were compared.
     watched: usize,
@@ -47,7 +46,7 @@ impl Run {
     fn add(&mut self, seed: u64) -> Result<(), String> {
         let drawn = drawn(seed);
         let Drawn { text, lent, .. } = &drawn;
-        self.drawn.add_drawn(&Library::default(), &drawn, seed)?;
+        self.drawn.add_drawn(&Library, &drawn, seed)?;
         if drawn.kind == Kind::Largest {
             self.largest += 1;
         }
@@ -60,12 +59,6 @@ impl Run {
             *calls += 2;
             Ok::<(), String>(())
         };
-        let more = 1 + (seed % 7) as usize;
-        for (nets_more, scores_more) in [(more, 0), (0, more)] {
-            let library = Library { nets_more, scores_more, ..Library::default() };
-            let told = both(&library, seed + 1, &mut self.uneven).and(library.fault.take().map_or(Ok(()), Err));
-            told.map_err(|fault| format!("{nets_more} more net numbers, {scores_more} more scores: {fault}"))?;
-        }
         both(&Wrapped, seed + 2, &mut self.wrapped).map_err(|fault| format!("through the wrapper: {fault}"))?;
 
         let Ok(plan) = planned else { return Ok(()) };
@@ -107,7 +100,7 @@ fn main() {
     }
     print!("{}", run.drawn);
     println!("jobs of the largest size: {}", run.largest);
-    println!("calls with lists of unequal length: {}; through the Rust wrapper: {}", run.uneven, run.wrapped);
+    println!("calls through the Rust wrapper: {}", run.wrapped);
     println!("walks compared: {} nets of {} jobs", run.walks, run.watched);
     println!("seconds: {}", start.elapsed().as_secs());
     println!("no difference");
@@ -173,7 +166,7 @@ mod tests {
         let text = include_bytes!("../../../examples/three-tiles.job");
         let lent = Lengths { work: 110, order: 3, answer: 3, print: Some(390) };
         let expected = answer(text, lent);
-        held(&Library::default(), text, lent, &expected, 1).unwrap();
+        held(&Library, text, lent, &expected, 1).unwrap();
         held(&Wrapped, text, lent, &expected, 1).unwrap();
         let faults: [Faulty; 4] = [
             Faulty(|work, _, _| work[109] = 1),

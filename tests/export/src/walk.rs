@@ -2,7 +2,7 @@
 //! stands: in the working numbers, at the moment when the net's first layer is written into the answer list. The call
 //! is watched from outside (`watch.c`).
 
-use layerplan::sys::LayerplanResult;
+use layerplan::sys::{Entry, LayerplanResult};
 use second::calls::Buffers;
 use second::job::{Grid, Job, Net};
 use second::plan::{Plan, Step};
@@ -14,10 +14,8 @@ extern "C" {
         text_length: usize,
         work: *mut u32,
         work_length: usize,
-        nets: *mut u32,
-        nets_length: usize,
-        scores: *mut u64,
-        scores_length: usize,
+        order: *mut Entry,
+        order_length: usize,
         answer: *mut u8,
         answer_length: usize,
         tell: extern "C" fn(data: *mut c_void, place: usize),
@@ -101,7 +99,7 @@ pub fn walks(
     walk: impl Fn(Grid, &Net) -> Vec<Step>,
 ) -> Result<usize, String> {
     let Buffers { mut work, order, mut answer, .. } = Buffers::filled(job.need(), seed);
-    let (mut nets, mut scores) = (vec![0; order.len()], vec![0; order.len()]);
+    let mut order = vec![Entry::default(); order.len()];
     let counts = || job.nets.iter().map(|net| net.edges.len());
     let work_pointer = work.as_mut_ptr();
     let mut watch = Watch {
@@ -121,10 +119,8 @@ pub fn walks(
             text.len(),
             work_pointer,
             work.len(),
-            nets.as_mut_ptr(),
-            nets.len(),
-            scores.as_mut_ptr(),
-            scores.len(),
+            order.as_mut_ptr(),
+            order.len(),
             answer.as_mut_ptr(),
             answer.len(),
             tell,

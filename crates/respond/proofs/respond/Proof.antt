@@ -5,7 +5,6 @@ use mathlib.Core.Path.{sym, ap, ap₂, _∙_}
 use Prim.Native.Nat.{ℕ}
 use lib.ListN.{length}
 use borrow.Author.Needs.{needs}
-use Rattle.calls.specs.Calls.{buffersOf}
 use Rattle.model.specs.Calls.{overwrite}
 use Rattle.model.specs.Program.{program}
 use Rattle.respond.proofs.Written.{too-long, program-refused, program-printed, inside}
@@ -25,10 +24,10 @@ returns-2 : tie.Need-returns-2
 returns-2 c =
     let z = c .before .before .before .before .before .before .before .before .before .before .before .before .before .before .before .before .before .before .before .before .before .before in
     let x = z .args in
-    let p = c .before .before .before .before .before .before .before .before .before .before .before .before .before .print in
+    let p = c .before .before .before .before .before .before .before .before .before .before .before .before .before .print-lists in
     let g = c .before .before .before .before .before .r .given in
     let f = c .before .before .refuse2 in
-    let k = program-refused (x .input .now) (x .out .now) (z .pre) (c .before .before .before .before .before .before .before .before .before .before .before .before .before .before .before .before .before .before .before .if1 .left) (buffersOf (p .last .1 .0) (p .last .1 .1 .0) (p .last .1 .1 .1 .0) (p .last .1 .1 .1 .1 .0)) (p .last .1 .1 .1 .1 .1 .0) (p .result) (p .ensures .0) (g .0 .0) (g .1) in
+    let k = program-refused (x .input .now) (x .out .now) (z .pre) (c .before .before .before .before .before .before .before .before .before .before .before .before .before .before .before .before .before .before .before .if1 .left) (p .last .1 .0) (p .last .1 .1 .0) (p .last .1 .1 .1 .0) (p .last .1 .1 .1 .1 .1 .0) (p .last .1 .1 .1 .1 .1 .1 .0) (p .result) (p .ensures) (g .0 .0) (g .1) in
     let w = f .ensures .0 ∙ ap₂ overwrite (sym (k .0)) (k .1) in
     let n = f .ensures .1 ∙ ap length (sym (k .0)) in
     (w, ((n, inside (program (x .input .now)) (x .out .now) (f .last .0) (f .result) w n), search needs))
@@ -37,10 +36,10 @@ returns-3 : tie.Need-returns-3
 returns-3 c =
     let z = c .before .before .before .before .before .before .before .before .before .before .before .before .before .before .before .before .before .before in
     let x = z .args in
-    let p = c .before .before .before .before .before .before .before .before .before .print in
+    let p = c .before .before .before .before .before .before .before .before .before .print-lists in
     let g = c .before .size .given in
-    let k = program-printed (x .input .now) (x .out .now) (z .pre) (c .before .before .before .before .before .before .before .before .before .before .before .before .before .before .before .if1 .left) (buffersOf (p .last .1 .0) (p .last .1 .1 .0) (p .last .1 .1 .1 .0) (p .last .1 .1 .1 .1 .0)) (p .last .1 .1 .1 .1 .1 .0) (p .result) (p .ensures .0) (g .0 .0) (g .0 .1 .0) (g .1) in
-    (k .0, ((k .1, inside (program (x .input .now)) (x .out .now) (p .last .1 .1 .1 .1 .1 .0) (g .0 .1 .0) (k .0) (k .1)), search needs))
+    let k = program-printed (x .input .now) (x .out .now) (z .pre) (c .before .before .before .before .before .before .before .before .before .before .before .before .before .before .before .if1 .left) (p .last .1 .0) (p .last .1 .1 .0) (p .last .1 .1 .1 .0) (p .last .1 .1 .1 .1 .1 .0) (p .last .1 .1 .1 .1 .1 .1 .0) (p .result) (p .ensures) (g .0 .0) (g .0 .1 .0) (g .0 .1 .1 .0) (g .1) in
+    (k .0, ((k .1, inside (program (x .input .now)) (x .out .now) (p .last .1 .1 .1 .1 .1 .1 .0) (g .0 .1 .1 .0) (k .0) (k .1)), search needs))
 
 pub respond-spec : {M : Type 1} → statement M
 respond-spec =
