@@ -60,7 +60,6 @@ fn judge(
     ensures { λ r. ⌜ r ≡ toldIn (read (lentBy (length (now (w .entry))) order answer print) (now (s .entry))) ⌝ }
     ensures { λ _. ⌜ length (now (table .exit)) ≡ length (now (table .entry)) ⌝ }
 {
-    tracks::clear(w);
     answer_told(reader::read_job(s, w, table, order, answer, print))
 }
 

@@ -1,21 +1,22 @@
 -- The head, and behind it the rest: the job, and what the working numbers hold of it.
 -- Assumes nothing.
 use mathlib.Core.Bool.{Bool, true, false}
-use mathlib.Core.List.{List}
+use mathlib.Core.List.{List, _∷_}
 use mathlib.Core.Path.{_≡_, refl, sym, ap, _∙_, subst}
-use Prim.Native.Nat.{ℕ, suc, _+_, _-_, _*_, _≤_, _<_}
+use Prim.Native.Nat.{ℕ, zero, suc, _+_, _-_, _*_, _≤_, _<_}
+use native.Mathlib.Nat.{suc-mul, mul-comm}
 use native.Mathlib.Omega.{arith}
 use borrow.Author.Tests.{leb-true}
 use lib.Dec.{leb}
-use lib.ListN.{length, drop, getD}
-use lib.Seq.{getD-drop}
-use Rattle.head.specs.Capacities.{capacity-in}
+use lib.ListN.{length, getD}
+use Rattle.head.specs.Capacities.{column, columns, capacitiesOf, capacity-in}
 use Rattle.head.specs.Reads.{HeadJob, headIn, restIn}
 use Rattle.head.specs.Told.{headJob, headTold, headHolds, Holds, read-by}
 use Rattle.head.specs.declared.Head.{Head}
 use Rattle.head.specs.declared.HeadRead.{HeadRead}
 use Rattle.head.specs.declared.HeadRead.the-variants.{Head as headed, Refused as Unheaded}
-use Rattle.layout.specs.Areas.{loadsAt, demandAt, areasEnd, edge-room}
+use Rattle.layout.specs.Areas.{loadsAt, demandAt, chosenAt, areasEnd, edge-room}
+use Rattle.layout.specs.Parts.{Outside}
 use Rattle.layout.specs.Shapes.{shapeOf, Shaped}
 use Rattle.layout.specs.Table.{tableSize}
 use Rattle.layout.specs.declared.Shape.{Shape}
@@ -45,16 +46,27 @@ text-fits size working order p q h e = go (leb size mostText) refl
     go true l = leb-true size mostText l
     go false l = absurd (let y : _≡_ {A = ℕ} 0 1 = cc (rw l at e) in omega arith)
 
--- what lies beyond a place is the same
-beyond-same : (a : ℕ) (x w : List ℕ) (k : ℕ) → drop a x ≡ drop a w → a ≤ k → getD x k 0 ≡ getD w k 0
-beyond-same a x w k e h =
-    let y : k ≡ a + (k - a) = omega arith in
-    ap (λ (m : ℕ). getD x m 0) y ∙ sym (getD-drop a x (k - a) 0) ∙ ap (λ (l : List ℕ). getD l (k - a) 0) e ∙ getD-drop a w (k - a) 0 ∙ ap (λ (m : ℕ). getD w m 0) (sym y)
+-- ---- two lists that agree below K × E have the same capacities
+
+column-same : (k bound : ℕ) (w v : List ℕ) → ((i : ℕ) → i < bound → getD v i 0 ≡ getD w i 0) → (at n : ℕ) → at + n * k < bound + k → column k v at n ≡ column k w at n
+column-same k bound w v h at zero b = refl
+column-same k bound w v h at (suc n) b =
+    let q = suc-mul n k in
+    ap (λ (x : ℕ). x ∷ column k v (at + k) n) (h at (omega (arith, q))) ∙ ap (λ (xs : List ℕ). getD w at 0 ∷ xs) (column-same k bound w v h (at + k) n (omega (arith, q)))
+
+columns-same : (k n : ℕ) (w v : List ℕ) → ((i : ℕ) → i < n * k → getD v i 0 ≡ getD w i 0) → (l m : ℕ) → l + m ≤ k → columns k n v l m ≡ columns k n w l m
+columns-same k n w v h l zero b = refl
+columns-same k n w v h l (suc m) b =
+    ap (λ (c : List ℕ). c ∷ columns k n v (suc l) m) (column-same k (n * k) w v h l n (omega arith))
+    ∙ ap (λ (cs : List (List ℕ)). column k w l n ∷ cs) (columns-same k n w v h (suc l) m (omega arith))
+
+capacities-same : (g : Shape) (w v : List ℕ) → ((i : ℕ) → i < loadsAt g → getD v i 0 ≡ getD w i 0) → capacitiesOf g v ≡ capacitiesOf g w
+capacities-same g w v h = columns-same (g .k) (g .e) w v (λ i b. h i (omega (arith, mul-comm (g .e) (g .k)))) 0 (g .k) (omega arith)
 
 shape-is : (g : Shape) → Shaped g → g ≡ shapeOf (g .w) (g .h) (g .k)
 shape-is g shaped i = record { w = g .w; h = g .h; k = g .k; t = shaped .t-is i; east = shaped .east-is i; e = shaped .e-is i }
 
-module _ (s : List ℕ) (order : ℕ) (w : List ℕ) (zeros : (i : ℕ) → getD w i 0 ≡ 0) (w₁ : List ℕ) (r : HeadRead)
+module _ (s : List ℕ) (order : ℕ) (w : List ℕ) (w₁ : List ℕ) (r : HeadRead)
     (told : headTold s w₁ r ≡ headIn (length s) (length w) order (record { line = 0; rest = s })) (answer : ℕ) (print : PrintRoom) where
   abbrev lent : Lent
   lent = lentBy (length w) order answer print
@@ -80,67 +92,77 @@ module _ (s : List ℕ) (order : ℕ) (w : List ℕ) (zeros : (i : ℕ) → getD
     pub areas-fit : areasEnd (h .shape) ≤ length w₁
     areas-fit = omega (arith, need-is, head-holds .working)
 
-    pub nets-may-start : (table : List ℕ) → tableSize ≤ length table → NetsReady (h .shape) w₁ table
-    nets-may-start table t = record {
-      room = omega (arith, areas-fit);
-      zeros = λ k a b. beyond-same (loadsAt (h .shape)) w₁ w k (head-holds .beyond) (omega arith) ∙ zeros k;
-      table-long = t;
-    }
+    read-head-on : read (lentBy (length w) order answer print) s ≡ restIn (lentBy (length w) order answer print) (headJob h w₁) (placeOf s c)
+    read-head-on = read-by lent s w₁ r told ∙ ap (λ (x : HeadRead). next (headTold s w₁ x) (restIn lent)) e
 
-    read-on : read (lentBy (length w) order answer print) s ≡ restIn (lentBy (length w) order answer print) (headJob h w₁) (placeOf s c)
-    read-on = read-by lent s w₁ r told ∙ ap (λ (x : HeadRead). next (headTold s w₁ x) (restIn lent)) e
+    -- the working numbers v, with zeros in what the nets are counted and marked in
+    module _ (v : List ℕ) (outside : Outside (loadsAt (h .shape)) (chosenAt (h .shape) - loadsAt (h .shape)) w₁ v)
+        (zeros : (i : ℕ) → loadsAt (h .shape) ≤ i → i < chosenAt (h .shape) → getD v i 0 ≡ 0) where
+      pub nets-may-start : (table : List ℕ) → tableSize ≤ length table → NetsReady (h .shape) v table
+      nets-may-start table t = record {
+        room = omega (arith, areas-fit, outside .long);
+        zeros = λ k a b. zeros k (omega arith) b;
+        table-long = t;
+      }
 
-    -- the rest after the head
-    module _ (w₂ table : List ℕ) where
-      pub rest-refused : (f : Refusal) → ((working order : ℕ) → restIn (lentBy working order answer print) (headJob h w₁) (placeOf s c) ≡ refusedBy f)
-          → read (lentBy (length w) order answer print) s ≡ refusedBy f
-      rest-refused f k = read-on ∙ k (length w) order
+      -- the capacities are those of the head
+      read-on : read (lentBy (length w) order answer print) s ≡ restIn (lentBy (length w) order answer print) (headJob h v) (placeOf s c)
+      read-on =
+          read-head-on
+          ∙ ap (λ (cs : List (List ℕ)). restIn lent (record { width = h .shape .w; height = h .shape .h; layers = h .shape .k; alpha = h .alpha; beta = h .beta; gamma = h .gamma; capacities = cs; nets = h .nets }) (placeOf s c))
+          (sym (capacities-same (h .shape) w₁ v (outside .low)))
 
-      module _ (entries : ℕ) (found-rest : RestFound s h answer print (placeOf s c) w₁ w₂ table entries) where
-        abbrev ns : List Net
-        ns = found-rest .nets-read
+      -- the rest after the head
+      module _ (w₂ table : List ℕ) where
+        pub rest-refused : (f : Refusal) → ((working order : ℕ) → restIn (lentBy working order answer print) (headJob h v) (placeOf s c) ≡ refusedBy f)
+            → read (lentBy (length w) order answer print) s ≡ refusedBy f
+        rest-refused f k = read-on ∙ k (length w) order
 
-        abbrev job : Job
-        job = jobOf h w₁ (found-rest .nets-read)
+        module _ (entries : ℕ) (found-rest : RestFound s h answer print (placeOf s c) v w₂ table entries) where
+          abbrev ns : List Net
+          ns = found-rest .nets-read
 
-        abbrev so : SoRead s (h .shape) (found-rest .nets-read) entries w₁ w₂ table
-        so = found-rest .so-read
+          abbrev job : Job
+          job = jobOf h v (found-rest .nets-read)
 
-        capacities-are : Capacities (h .shape) (jobOf h w₁ (found-rest .nets-read)) w₂
-        capacities-are = record {
-          caps = λ a l b x y.
-              so .low (a * h .shape .k + (l - 1)) (omega (arith, edge-room (h .shape) a b))
-              ∙ sym (capacity-in job (h .shape) w₁ refl a l b x y);
-        }
+          abbrev so : SoRead s (h .shape) (found-rest .nets-read) entries v w₂ table
+          so = found-rest .so-read
 
-        row-is : (i : ℕ) → i < netCount (jobOf h w₁ (found-rest .nets-read)) → Row s (jobOf h w₁ (found-rest .nets-read)) table i
-        row-is i b =
-            let z : i ≡ suc i - 1 = omega arith in
-            let k = subst (λ (m : ℕ). RowAt s (h .shape .w) (h .shape .h) (h .shape .k) table i (offset (edgesOf ns) i) (getD ns m noNet)) z (so .rows i b) in
-            record { pins = k .pins; edges = k .edges; pin-count = k .pin-count; edge-count = k .edge-count; first = k .first-is }
+          capacities-are : Capacities (h .shape) (jobOf h v (found-rest .nets-read)) w₂
+          capacities-are = record {
+            caps = λ a l b x y.
+                so .low (a * h .shape .k + (l - 1)) (omega (arith, edge-room (h .shape) a b))
+                ∙ sym (capacity-in job (h .shape) v refl a l b x y);
+          }
 
-        pub job-found : JobFound s (lentBy (length w) order answer print) w₂ table h entries
-        job-found = record {
-          job = job;
-          place = found-rest .place;
-          is = read-on ∙ found-rest .is (length w) order;
-          checked = record {
-            shape = shape-is (h .shape) (head-holds .shaped);
-            shaped = head-holds .shaped;
-            room = omega (arith, areas-fit, so .long);
-            capacities = capacities-are;
-            loads = λ i a b. so .low i b ∙ beyond-same (loadsAt (h .shape)) w₁ w i (head-holds .beyond) a ∙ zeros i;
-            demand = so .demands;
-            marks = so .marks;
-            rows = record { long = so .table-long; rows = row-is };
-          };
-          alpha = refl;
-          beta = refl;
-          gamma = refl;
-          nets = sym (found-rest .count);
-          entries-are = so .entries-are;
-        }
+          row-is : (i : ℕ) → i < netCount (jobOf h v (found-rest .nets-read)) → Row s (jobOf h v (found-rest .nets-read)) table i
+          row-is i b =
+              let z : i ≡ suc i - 1 = omega arith in
+              let k = subst (λ (m : ℕ). RowAt s (h .shape .w) (h .shape .h) (h .shape .k) table i (offset (edgesOf ns) i) (getD ns m noNet)) z (so .rows i b) in
+              record { pins = k .pins; edges = k .edges; pin-count = k .pin-count; edge-count = k .edge-count; first = k .first-is }
 
-    pub job-told : (w₂ table : List ℕ) (v : JobRead) → RestTold s h answer print (placeOf s c) w₁ w₂ table v → JobTold s (lentBy (length w) order answer print) w₂ table v
-    job-told w₂ table (Refused f) t = rest-refused w₂ table f t
-    job-told w₂ table (accepted k entries) t = subst (λ (x : Head). JobFound s lent w₂ table x entries) (sym (t .0)) (job-found w₂ table entries (t .1))
+          pub job-found : JobFound s (lentBy (length w) order answer print) w₂ table h entries
+          job-found = record {
+            job = job;
+            place = found-rest .place;
+            is = read-on ∙ found-rest .is (length w) order;
+            checked = record {
+              shape = shape-is (h .shape) (head-holds .shaped);
+              shaped = head-holds .shaped;
+              room = omega (arith, areas-fit, outside .long, so .long);
+              capacities = capacities-are;
+              loads = λ i a b. so .low i b ∙ zeros i a (omega arith);
+              demand = so .demands;
+              marks = so .marks;
+              rows = record { long = so .table-long; rows = row-is };
+            };
+            alpha = refl;
+            beta = refl;
+            gamma = refl;
+            nets = sym (found-rest .count);
+            entries-are = so .entries-are;
+          }
+
+      pub job-told : (w₂ table : List ℕ) (a : JobRead) → RestTold s h answer print (placeOf s c) v w₂ table a → JobTold s (lentBy (length w) order answer print) w₂ table a
+      job-told w₂ table (Refused f) t = rest-refused w₂ table f t
+      job-told w₂ table (accepted k entries) t = subst (λ (x : Head). JobFound s lent w₂ table x entries) (sym (t .0)) (job-found w₂ table entries (t .1))

@@ -11,10 +11,10 @@ use text::Cursor;
 use text::Fault;
 use text::Refusal;
 ghost use mathlib.Core.Path.{_≡_};
-ghost use Prim.Native.Nat.{ℕ, _+_, _*_, _<_, _≤_};
+ghost use Prim.Native.Nat.{ℕ, _+_, _-_, _*_, _<_, _≤_};
 ghost use lib.ListN.{length, drop, getD};
 ghost use Rattle.edges.specs.Reading.{tilesOf};
-ghost use Rattle.layout.specs.Areas.{tilesAt, chosenAt};
+ghost use Rattle.layout.specs.Areas.{loadsAt, tilesAt, chosenAt};
 ghost use Rattle.layout.specs.Parts.{Outside};
 ghost use Rattle.layout.specs.Shapes.{Shaped};
 ghost use Rattle.layout.specs.Table.{tableSize};
@@ -257,8 +257,20 @@ fn read_rest(
     }
 }
 
-// The whole text s. The working numbers w are zero before; `order`, `answer` and `print` are the lengths of what else is lent. After a refusal the working
-// numbers and the net table may hold anything.
+// Zeroes what the nets are counted and marked in: the nets on each layer, d(e), c(e), and what is kept by tile.
+fn clear_counts(w: &mut [u32], g: Shape)
+    requires { ⌜ Shaped g ⌝ }
+    requires { ⌜ chosenAt g ≤ length (now w) ⌝ }
+    ensures { λ _. ⌜ Outside (loadsAt g) (chosenAt g - loadsAt g) (now (w .entry)) (now (w .exit)) ⌝ }
+    ensures { λ _. ⌜ ((i : ℕ) → loadsAt g ≤ i → i < chosenAt g → getD (now (w .exit)) i 0 ≡ 0) ⌝ }
+{
+    let from = layout::loads_at(g);
+    let to = layout::chosen_at(g);
+    tracks::clear(&mut w[from..to]);
+}
+
+// The whole text s. The working numbers w may hold anything before; `order`, `answer` and `print` are the lengths of what else is lent. After a refusal the
+// working numbers and the net table may hold anything.
 pub fn read_job(
     s: &[u8],
     w: &mut [u32],
@@ -267,13 +279,15 @@ pub fn read_job(
     answer: usize,
     print: PrintRoom,
 ) -> JobRead
-    requires { ⌜ ((i : ℕ) → getD (now w) i 0 ≡ 0) ⌝ }
     requires { ⌜ tableSize ≤ length (now table) ⌝ }
     ensures { λ r. ⌜ JobTold (now (s .entry)) (lentBy (length (now (w .entry))) order answer print) (now (w .exit)) (now (table .exit)) r ⌝ }
     ensures { λ _. ⌜ (length (now (w .exit)) ≡ length (now (w .entry))) × (length (now (table .exit)) ≡ length (now (table .entry))) ⌝ }
 {
     match head::read_head(s, w, order) {
         HeadRead::Refused(r) => JobRead::Refused(r),
-        HeadRead::Head(h, c) => read_rest(s, h, c, w, table, answer, print),
+        HeadRead::Head(h, c) => {
+            clear_counts(w, h.shape);
+            read_rest(s, h, c, w, table, answer, print)
+        }
     }
 }
