@@ -6,7 +6,7 @@ use mathlib.Core.Path.{_≡_, refl, sym, ap, ap₂, _∙_, subst}
 use Prim.Native.Nat.{ℕ, zero, suc, _≤_}
 use native.Mathlib.Omega.{arith}
 use lib.Dec.{T, leb→le}
-use lib.ListN.{length, take, drop, getD, replicate, length-append, length-map, length-replicate}
+use lib.ListN.{length, take, drop, replicate, length-append, length-map}
 use lib.Seq.{take-at, sets}
 use Rattle.lines.specs.Told.{refusedBy}
 use Rattle.model.specs.Calls.{refusal, accepted as accepted-with, toldOf, outcomeOf, outcome, Buffers, overwrite, stretches, plannedBy, Planned as PlannedBy, planLent, planCall, printedBy, Printed as PrintedBy, printLent, printCall}
@@ -35,16 +35,6 @@ use Rattle.calls.specs.declared.Outcome.the-variants.{Made, Refused}
 use Rattle.calls.specs.declared.Planned.{Planned as PlannedAs}
 use Rattle.calls.specs.declared.Printed.{Printed as PrintedAs}
 use Rattle.calls.specs.declared.Totals.{Totals}
-
--- ---- the working numbers that are cleared
-
-zeros : (n i : ℕ) → _≡_ {A = ℕ} (getD (replicate n 0) i 0) 0
-zeros zero i = refl
-zeros (suc n) zero = refl
-zeros (suc n) (suc i) = zeros n i
-
-pub zeros-at : (w : List ℕ) (n : ℕ) → w ≡ replicate n 0 → (i : ℕ) → getD w i 0 ≡ 0
-zeros-at w n e i = ap (λ (l : List ℕ). getD l i 0) e ∙ zeros n i
 
 -- ---- the order list as two lists
 
@@ -129,16 +119,13 @@ module _ (work nets scores answer w′ nets′ scores′ answer′ : List ℕ) (
 
 -- ---- Plan
 
--- the lengths that are lent, as the call has them and as the definitions do; w is the cleared buffer
-module _ (work w answer : List ℕ) (size : ℕ) (clear : w ≡ replicate (length work) 0) (os : List EntryOf) (long : length os ≡ size) where
-  same-work : length work ≡ length w
-  same-work = sym (ap length clear ∙ length-replicate (length work) 0)
+-- the lengths that are lent, as the call has them and as the definitions do
+module _ (work answer : List ℕ) (size : ℕ) (os : List EntryOf) (long : length os ≡ size) where
+  lent-plan : planLent (lentAs work os answer) ≡ lentBy (length work) size (length answer) Absent
+  lent-plan = ap {B = Lent} (λ y. record { working = length work; order = y; answer = length answer; print = none }) long
 
-  lent-plan : planLent (lentAs work os answer) ≡ lentBy (length w) size (length answer) Absent
-  lent-plan = ap₂ {C = Lent} (λ x y. record { working = x; order = y; answer = length answer; print = none }) same-work long
-
-  lent-print : (out : List ℕ) → printLent (lentAs work os answer) out ≡ lentBy (length w) size (length answer) (Bytes (length out))
-  lent-print out = ap₂ {C = Lent} (λ x y. record { working = x; order = y; answer = length answer; print = some (length out) }) same-work long
+  lent-print : (out : List ℕ) → printLent (lentAs work os answer) out ≡ lentBy (length work) size (length answer) (Bytes (length out))
+  lent-print out = ap {B = Lent} (λ y. record { working = length work; order = y; answer = length answer; print = some (length out) }) long
 
 -- a job of this many nets fits the order list and the two lists
 module _ (s : List ℕ) (lent : Lent) (nets nets′ scores scores′ answer answer′ table′ : List ℕ) (n : ℕ) (t : Totals) (k : PlanFound s lent nets nets′ scores scores′ answer answer′ table′ n t) where
@@ -148,26 +135,26 @@ module _ (s : List ℕ) (lent : Lent) (nets nets′ scores scores′ answer answ
   count-most : n ≤ 4096
   count-most = omega (arith, k .count, accepted lent s (k .job) (k .place) (k .is) .net-count)
 
-module _ (s work nets scores answer w nets′ scores′ answer′ table′ w′ : List ℕ) (size : ℕ) (clear : w ≡ replicate (length work) 0) (again : w′ ≡ replicate (length work) 0) where
+module _ (s work nets scores answer nets′ scores′ answer′ table′ w′ : List ℕ) (size : ℕ) (again : w′ ≡ replicate (length work) 0) where
   call-refused : (os : List EntryOf) (n l : ℕ) → read (planLent (lentAs work os answer)) s ≡ refused n l → planCall s (lentAs work os answer) ≡ plannedBy (refusal n l) (lentAs work os answer)
   unfolding outcome
   call-refused os n l e = ap (λ (r : Result Job). plannedBy (outcomeOf r) (lentAs work os answer)) e
 
-  pub plan-left : (r : Outcome) → PlanTold s (lentBy (length w) size (length answer) Absent) nets nets′ scores scores′ answer answer′ table′ r
+  pub plan-left : (r : Outcome) → PlanTold s (lentBy (length work) size (length answer) Absent) nets nets′ scores scores′ answer answer′ table′ r
       → PlanLeft s work w′ nets′ scores′ size answer answer′ r
   plan-left (Refused r) k = record {
     few = omega arith;
     most = omega arith;
     told = λ os long.
         left-refused work nets scores answer w′ nets′ scores′ answer′ again os r (k .1)
-        ∙ sym (call-refused os (numberOf r) (lineOf r) (ap (λ (x : Lent). read x s) (lent-plan work w answer size clear os long) ∙ k .0));
+        ∙ sym (call-refused os (numberOf r) (lineOf r) (ap (λ (x : Lent). read x s) (lent-plan work answer size os long) ∙ k .0));
   }
   plan-left (Made n t bytes) k = record {
-    few = count-few s (lentBy (length w) size (length answer) Absent) nets nets′ scores scores′ answer answer′ table′ n t k;
-    most = count-most s (lentBy (length w) size (length answer) Absent) nets nets′ scores scores′ answer answer′ table′ n t k;
+    few = count-few s (lentBy (length work) size (length answer) Absent) nets nets′ scores scores′ answer answer′ table′ n t k;
+    most = count-most s (lentBy (length work) size (length answer) Absent) nets nets′ scores scores′ answer answer′ table′ n t k;
     told = λ os long.
-        left-made work nets scores answer w′ nets′ scores′ answer′ again os (lentBy (length w) size (length answer) Absent) s table′ n t bytes k
-        ∙ sym (plan-call s (lentAs work os answer) (k .job) (k .place) (ap (λ (x : Lent). read x s) (lent-plan work w answer size clear os long) ∙ k .is));
+        left-made work nets scores answer w′ nets′ scores′ answer′ again os (lentBy (length work) size (length answer) Absent) s table′ n t bytes k
+        ∙ sym (plan-call s (lentAs work os answer) (k .job) (k .place) (ap (λ (x : Lent). read x s) (lent-plan work answer size os long) ∙ k .is));
   }
 
 -- the entries are written, and the answer is told: the whole call, and demand 3 of it
@@ -259,16 +246,16 @@ module _ (s : List ℕ) (lent : Lent) (nets nets′ scores scores′ answer answ
       size-is = l ∙ ap length text-is;
     }
 
-module _ (s work nets scores answer out w nets′ scores′ answer′ table′ w′ out′ : List ℕ) (size : ℕ) (clear : w ≡ replicate (length work) 0) (again : w′ ≡ replicate (length work) 0) where
+module _ (s work nets scores answer out nets′ scores′ answer′ table′ w′ out′ : List ℕ) (size : ℕ) (again : w′ ≡ replicate (length work) 0) where
   abbrev lentAll : Lent
-  lentAll = lentBy (length w) size (length answer) (Bytes (length out))
+  lentAll = lentBy (length work) size (length answer) (Bytes (length out))
 
   printing-refused : (os : List EntryOf) (n l : ℕ) → read (printLent (lentAs work os answer) out) s ≡ refused n l
       → printCall s (lentAs work os answer) out ≡ printedBy (refusal n l) (lentAs work os answer) out
   unfolding outcome
   printing-refused os n l e = ap (λ (r : Result Job). printedBy (outcomeOf r) (lentAs work os answer) out) e
 
-  pub print-left : (r : Outcome) → PrintTold s (lentBy (length w) size (length answer) (Bytes (length out))) nets nets′ scores scores′ answer answer′ table′ out out′ r
+  pub print-left : (r : Outcome) → PrintTold s (lentBy (length work) size (length answer) (Bytes (length out))) nets nets′ scores scores′ answer answer′ table′ out out′ r
       → PrintLeft s work w′ nets′ scores′ size answer answer′ out out′ r
   print-left (Refused r) k = record {
     few = omega arith;
@@ -276,7 +263,7 @@ module _ (s work nets scores answer out w nets′ scores′ answer′ table′ w
     told = λ os long.
         let left = left-refused work nets scores answer w′ nets′ scores′ answer′ again os r (k .1) in
         (λ i. record { returned = left i .returned; length = 0; buffers = left i .buffers; print = k .2 i })
-        ∙ sym (printing-refused os (numberOf r) (lineOf r) (ap (λ (x : Lent). read x s) (lent-print work w answer size clear os long out) ∙ k .0));
+        ∙ sym (printing-refused os (numberOf r) (lineOf r) (ap (λ (x : Lent). read x s) (lent-print work answer size os long out) ∙ k .0));
   }
   print-left (Made n t bytes) k = record {
     few = count-few s lentAll nets nets′ scores scores′ answer answer′ table′ n t (k .planned);
@@ -285,5 +272,5 @@ module _ (s work nets scores answer out w nets′ scores′ answer′ table′ w
         let f = k .planned in
         let left = left-made work nets scores answer w′ nets′ scores′ answer′ again os lentAll s table′ n t bytes f in
         (λ i. record { returned = left i .returned; length = k .size-is i; buffers = left i .buffers; print = k .text-is i })
-        ∙ sym (print-call s (lentAs work os answer) out (f .job) (f .place) (ap (λ (x : Lent). read x s) (lent-print work w answer size clear os long out) ∙ f .is));
+        ∙ sym (print-call s (lentAs work os answer) out (f .job) (f .place) (ap (λ (x : Lent). read x s) (lent-print work answer size os long out) ∙ f .is));
   }

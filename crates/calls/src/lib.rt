@@ -88,7 +88,7 @@ fn plan_nets(
     }
 }
 
-// Reads the text and plans its job. The working numbers are zero before; `order` is the length of the order list.
+// Reads the text and plans its job. `order` is the length of the order list.
 fn plan_in(
     s: &[u8],
     w: &mut [u32],
@@ -99,7 +99,6 @@ fn plan_in(
     answer: &mut [u8],
     print: PrintRoom,
 ) -> Outcome
-    requires { ⌜ ((i : ℕ) → getD (now w) i 0 ≡ 0) ⌝ }
     requires { ⌜ (tableSize ≤ length (now table)) × (length (now nets) ≡ 4096) × (length (now scores) ≡ 4096) ⌝ }
     ensures { λ r. ⌜ PlanTold (now (s .entry)) (lentBy (length (now (w .entry))) order (length (now (answer .entry))) print) (now (nets .entry)) (now (nets .exit)) (now (scores .entry)) (now (scores .exit)) (now (answer .entry)) (now (answer .exit)) (now (table .exit)) r ⌝ }
     ensures { λ _. ⌜ length (now (w .exit)) ≡ length (now (w .entry)) ⌝ }
@@ -113,7 +112,7 @@ fn plan_in(
     }
 }
 
-// Reads the text, plans its job, and writes the print. The working numbers are zero before.
+// Reads the text, plans its job, and writes the print.
 fn print_in(
     s: &[u8],
     w: &mut [u32],
@@ -124,7 +123,6 @@ fn print_in(
     answer: &mut [u8],
     out: &mut [u8],
 ) -> Outcome
-    requires { ⌜ ((i : ℕ) → getD (now w) i 0 ≡ 0) ⌝ }
     requires { ⌜ (tableSize ≤ length (now table)) × (length (now nets) ≡ 4096) × (length (now scores) ≡ 4096) ⌝ }
     ensures { λ r. ⌜ PrintTold (now (s .entry)) (lentBy (length (now (w .entry))) order (length (now (answer .entry))) (Bytes (length (now (out .entry))))) (now (nets .entry)) (now (nets .exit)) (now (scores .entry)) (now (scores .exit)) (now (answer .entry)) (now (answer .exit)) (now (table .exit)) (now (out .entry)) (now (out .exit)) r ⌝ }
     ensures { λ _. ⌜ length (now (w .exit)) ≡ length (now (w .entry)) ⌝ }
@@ -159,7 +157,6 @@ fn plan_lists(
     requires { ⌜ (length (now nets) ≡ 4096) × (length (now scores) ≡ 4096) ⌝ }
     ensures { λ r. ⌜ PlanLeft (now (text .entry)) (now (work .entry)) (now (work .exit)) (now (nets .exit)) (now (scores .exit)) order (now (answer .entry)) (now (answer .exit)) r ⌝ }
 {
-    tracks::clear(work);
     let mut table = [0u32; 24576];
     let outcome = plan_in(
         text,
@@ -188,7 +185,6 @@ pub fn print_lists(
     requires { ⌜ (length (now nets) ≡ 4096) × (length (now scores) ≡ 4096) ⌝ }
     ensures { λ r. ⌜ PrintLeft (now (text .entry)) (now (work .entry)) (now (work .exit)) (now (nets .exit)) (now (scores .exit)) order (now (answer .entry)) (now (answer .exit)) (now (out .entry)) (now (out .exit)) r ⌝ }
 {
-    tracks::clear(work);
     let mut table = [0u32; 24576];
     let outcome = print_in(text, work, &mut table, nets, scores, order, answer, out);
     tracks::clear(work);

@@ -18,7 +18,7 @@ plan-nets-requires c κs =
     let job = found-job (x .s .now) (lentBy (length (x .w .now)) (x .order) (length (x .answer .now)) (x .print)) (y .last .1 .0) (y .last .1 .1 .0) (f .0 .0) (f .0 .1 .0) (y .result) (f .1) (y .ensures .0) .job in
     let given = job-given (x .s .now) (lentBy (length (x .w .now)) (x .order) (length (x .answer .now)) (x .print)) (y .last .1 .0) (y .last .1 .1 .0) (f .0 .0) (f .0 .1 .0) (y .result) (f .1) (y .ensures .0) (length (x .answer .now)) refl in
     let few = few-nets (x .s .now) (f .0 .0) (y .last .1 .0) (y .last .1 .1 .0) (length (x .answer .now)) (lentBy (length (x .w .now)) (x .order) (length (x .answer .now)) (x .print)) job given in
-    (record { lent = (lentBy (length (x .w .now)) (x .order) (length (x .answer .now)) (x .print)); job = job; given = given }, (omega (arith, few, z .pre .1 .1), omega (arith, few, z .pre .1 .2)))
+    (record { lent = (lentBy (length (x .w .now)) (x .order) (length (x .answer .now)) (x .print)); job = job; given = given }, (omega (arith, few, z .pre .1), omega (arith, few, z .pre .2)))
 
 returns : tie.Need-returns
 returns c =
