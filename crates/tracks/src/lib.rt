@@ -54,7 +54,12 @@ fn edge_capacity(w: &[u32], g: Shape, edge: usize) -> u32
     requires { ⌜ SmallCapacities g (now w) ⌝ }
     ensures { λ r. ⌜ r ≡ capacitySum g (now (w .entry)) edge ⌝ }
 {
-    sum_of(w, edge_at(g, edge), g.k)
+    let at = edge_at(g, edge);
+    // the most common stack, so that the sum has a known length
+    if g.k == 8 {
+        return sum_of(w, at, 8);
+    }
+    sum_of(w, at, g.k)
 }
 
 // Puts c(e), the sum of the edge's K capacities, in its place for each edge.

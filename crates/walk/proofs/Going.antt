@@ -191,6 +191,12 @@ module _ (g : Shape) (shaped : Shaped g) (stamp : ℕ) (j : Job) (net : Net) (ro
     pub visit-room : n + length (branchesIn g stamp w i) ≤ g .t
     visit-room = places
 
+    pub visit-fits : getD w (tilesAt g + tileIn g w i) 0 < (stamp + 1) * 4096
+    visit-fits =
+        let e : getD w (tilesAt g + stopAt j net i .tile) 0 ≡ getD (tilesOf g w₀) (stopAt j net i .tile) 0 =
+        go .outside .low (tilesAt g + x) (omega (arith, x-in)) ∙ sym (part-at (tilesAt g) (g .t) w₀ x x-in) in
+        rw (go .stops i more) (omega (arith, e, walks .hand .fits x))
+
     -- branch k is the walk's next tile
     way-at : (k : ℕ) → k < kidsAt j net i → getD (branchesIn g stamp w i) k noWay ≡ record { tile = stopAt j net (n + k) .tile; edge = getD (walk j net) (n - 1 + k) 0 }
     way-at k h =

@@ -37,11 +37,14 @@ walk-requires c κs =
       r .0,
       (
         omega (arith, r .1 .0 .0, read .elsewhere .long),
-        record {
-          job = b .turn .job;
-          net = turnNet (b .turn);
-          walks = net-walks (x .s .now) (x .pins) (x .edges) (x .g) (r .0) (x .stamp) (x .w .now) (b .turn) (b .before) (d .read-net .last .1 .1 .1 .0) (d .read-net .result) read;
-        },
+        (
+          record {
+            job = b .turn .job;
+            net = turnNet (b .turn);
+            walks = net-walks (x .s .now) (x .pins) (x .edges) (x .g) (r .0) (x .stamp) (x .w .now) (b .turn) (b .before) (d .read-net .last .1 .1 .1 .0) (d .read-net .result) read;
+          },
+          r .1 .0 .1,
+        ),
       ),
     )
 

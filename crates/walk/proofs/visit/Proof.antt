@@ -22,14 +22,21 @@ cast-x c = omega (arith, tile-small c)
 cast-above : tie.Need-cast-above
 cast-above c = omega (arith, c .slice-known3 .given (c .before .above-at .result + c .before .before .before .before .before .args .i))
 
-add-bits : tie.Need-add-bits
-add-bits c = omega (arith, tile-small (c .before .before .before))
+add-latest-bits : tie.Need-add-latest-bits
+add-latest-bits c = omega (arith, tile-small (c .before .before .before))
 
-mul-bits : tie.Need-mul-bits
-mul-bits c = omega (arith, tile-small (c .before .before .before))
+mul-latest-bits : tie.Need-mul-latest-bits
+mul-latest-bits c = omega (arith, tile-small (c .before .before .before))
 
-slice-read-bits : tie.Need-slice-read-bits
-slice-read-bits c = omega (arith, tile-small (c .before .before .before .before))
+slice-read-latest-bits : tie.Need-slice-read-latest-bits
+slice-read-latest-bits c = omega (arith, tile-small (c .before .before .before .before))
+
+latest-bits-requires : tie.Need-latest-bits-requires
+latest-bits-requires c κs =
+    let q = c .before in
+    let s = q .before .before .before .before in
+    let k = s .before .before in
+    (k .pre .1 .1 .1 .1 .1 .0, rw (s .stops-at .ensures .0, q .tiles-at .ensures .0) (k .pre .1 .1 .1 .1 .1 .1))
 
 branches-requires : tie.Need-branches-requires
 branches-requires c κs =
@@ -39,13 +46,13 @@ branches-requires c κs =
     let s = u .before .before in
     let k = s .before .before in
     let r = visit-asked (k .args .g) (k .args .stamp) (k .args .w .now) (k .args .i) (k .args .n)
-    (s .stops-at .result) (u .above-at .result) (q .tiles-at .result) (b .bits .result) (s .stops-at .ensures .0) (u .above-at .ensures .0) (q .tiles-at .ensures .0) (b .bits .ensures .0)
-    (k .pre .1 .1 .1 .0) (k .pre .1 .1 .1 .1) in
+    (s .stops-at .result) (u .above-at .result) (q .tiles-at .result) (b .latest-bits .result) (s .stops-at .ensures .0) (u .above-at .ensures .0) (q .tiles-at .ensures .0) (b .latest-bits .ensures .0)
+    (k .pre .1 .1 .1 .0) (k .pre .1 .1 .1 .1 .0) in
     (k .pre .0, (k .pre .1 .0, (r .0, r .1)))
 
 -- after the branches are written
 module _ (p : tie.After-branches) where
-  abbrev b : tie.After-bits
+  abbrev b : tie.After-latest-bits
   b = p .before .before
 
   abbrev q : tie.After-tiles-at
@@ -62,14 +69,14 @@ module _ (p : tie.After-branches) where
 
   done : (v v′ : ℕ) → v ≡ engineAt (k .args .g) → v′ ≡ engineAt (k .args .g)
       → (p .branches .result ≡ k .args .n + length (branchesIn (k .args .g) (k .args .stamp) (k .args .w .now) (k .args .i)))
-      × (set (set (p .branches .last .0) (v + k .args .i) (p .branches .result)) (v′ + k .args .g .t + k .args .i) (b .bits .result % 256) ≡ visited (k .args .g) (k .args .stamp) (k .args .w .now) (k .args .i) (k .args .n))
+      × (set (set (p .branches .last .0) (v + k .args .i) (p .branches .result)) (v′ + k .args .g .t + k .args .i) (b .latest-bits .result % 256) ≡ visited (k .args .g) (k .args .stamp) (k .args .w .now) (k .args .i) (k .args .n))
   done =
       visit-done (k .args .g) (k .args .stamp) (k .args .w .now) (k .args .i) (k .args .n)
-      (s .stops-at .result) (u .above-at .result) (q .tiles-at .result) (b .bits .result) (s .stops-at .ensures .0) (u .above-at .ensures .0) (q .tiles-at .ensures .0) (b .bits .ensures .0)
+      (s .stops-at .result) (u .above-at .result) (q .tiles-at .result) (b .latest-bits .result) (s .stops-at .ensures .0) (u .above-at .ensures .0) (q .tiles-at .ensures .0) (b .latest-bits .ensures .0)
       (p .branches .result) (p .branches .last .0) (p .branches .ensures .0) (p .branches .ensures .1)
 
 cast-w : tie.Need-cast-w
-cast-w c = let p = c .before .before in omega (arith, done p _ _ refl refl .0, k p .pre .0, k p .pre .1 .1 .1 .1)
+cast-w c = let p = c .before .before in omega (arith, done p _ _ refl refl .0, k p .pre .0, k p .pre .1 .1 .1 .1 .0)
 
 slice-write-w-2 : tie.Need-slice-write-w-2
 slice-write-w-2 c =
@@ -89,10 +96,10 @@ visit-spec =
     (λ c κs. search needs) (λ c. search needs) (λ c. search needs) (λ c. search needs)
     cast-above
     (λ c κs. search needs)
-    add-bits
-    mul-bits
-    slice-read-bits
-    (λ c κs. search needs)
+    add-latest-bits
+    mul-latest-bits
+    slice-read-latest-bits
+    latest-bits-requires
     branches-requires
     cast-w
     (λ c κs. search needs) (λ c. search needs) (λ c. search needs) (λ c. search needs) (λ c κs. search needs) (λ c. search needs) (λ c. search needs)

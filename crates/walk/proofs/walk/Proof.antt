@@ -10,7 +10,7 @@ use borrow.Author.Needs.{needs}
 use Rattle.model.specs.Job.{Job, Net}
 use Rattle.walk.specs.Steps.{tileIn}
 use Rattle.walk.specs.Walked.{Walks, WalkReady}
-use Rattle.walk.proofs.Going.{Going, Begun, root-in, going-start, visit-tile, visit-ways, visit-room, going-next, going-end}
+use Rattle.walk.proofs.Going.{Going, Begun, root-in, going-start, visit-tile, visit-ways, visit-room, visit-fits, going-next, going-end}
 use Rattle.walk.proofs.walk.Statement.{statement}
 use Rattle.walk.proofs.walk.Tie as tie
 
@@ -23,7 +23,7 @@ abbrev μ-loop : tie.MeasureT-loop
 cast-w : tie.Need-cast-w Inv-loop μ-loop
 cast-w c =
     let k = c .before in
-    let n = k .pre .1 .1 in
+    let n = k .pre .1 .1 .0 in
     omega (arith, k .pre .0, root-in (k .args .g) (k .pre .0) (k .args .stamp) (n .job) (n .net) (k .args .root) (k .args .w .now) (k .pre .1 .0) (n .walks))
 
 slice-write-w-2 : tie.Need-slice-write-w-2 Inv-loop μ-loop
@@ -52,7 +52,7 @@ module _ (l : tie.At-loop Inv-loop μ-loop) where
       (record { room = k .pre .1 .0; walks = h; first = ap₂ (λ (a b : ℕ). set (set (k .args .w .now) a (k .args .root)) b (k .args .g .e)) (s .stops-at .ensures .0) (l .before .above-at .ensures .0) })
 
   abbrev ready : WalkReady (k .args .g) (k .args .stamp) (k .args .root) (k .args .w .now)
-  ready = k .pre .1 .1
+  ready = k .pre .1 .1 .0
 
   now-going : Going (k .args .g) (k .args .stamp) (ready .job) (ready .net) (k .args .w .now) (l .loop .w) (l .loop .i) (l .loop .n)
   now-going = going (ready .job) (ready .net) (ready .walks)
@@ -73,7 +73,10 @@ visit-requires c κs =
           in-grid l h,
           (
             visit-ways (x .g) (k l .pre .0) (x .stamp) (n .job) (n .net) (x .root) (x .w .now) (k l .pre .1 .0) (n .walks) (l .loop .w) (l .loop .i) (l .loop .n) (now-going l) h,
-            visit-room (x .g) (k l .pre .0) (x .stamp) (n .job) (n .net) (x .root) (x .w .now) (k l .pre .1 .0) (n .walks) (l .loop .w) (l .loop .i) (l .loop .n) (now-going l) h,
+            (
+              visit-room (x .g) (k l .pre .0) (x .stamp) (n .job) (n .net) (x .root) (x .w .now) (k l .pre .1 .0) (n .walks) (l .loop .w) (l .loop .i) (l .loop .n) (now-going l) h,
+              (k l .pre .1 .1 .1, visit-fits (x .g) (k l .pre .0) (x .stamp) (n .job) (n .net) (x .root) (x .w .now) (k l .pre .1 .0) (n .walks) (l .loop .w) (l .loop .i) (l .loop .n) (now-going l) h),
+            ),
           ),
         ),
       ),
