@@ -15,8 +15,7 @@ use Rattle.head.specs.Told.{headJob, headTold, headHolds, Holds, read-by}
 use Rattle.head.specs.declared.Head.{Head}
 use Rattle.head.specs.declared.HeadRead.{HeadRead}
 use Rattle.head.specs.declared.HeadRead.the-variants.{Head as headed, Refused as Unheaded}
-use Rattle.layout.specs.Areas.{loadsAt, demandAt, chosenAt, areasEnd, edge-room}
-use Rattle.layout.specs.Parts.{Outside}
+use Rattle.layout.specs.Areas.{loadsAt, demandAt, areasEnd, edge-room}
 use Rattle.layout.specs.Shapes.{shapeOf, Shaped}
 use Rattle.layout.specs.Table.{tableSize}
 use Rattle.layout.specs.declared.Shape.{Shape}
@@ -30,7 +29,7 @@ use Rattle.text.specs.Refusals.{placeOf}
 use Rattle.text.specs.declared.Cursor.{Cursor}
 use Rattle.text.specs.declared.Refusal.{Refusal}
 use Rattle.theory.specs.links.Stretches.{offset}
-use Rattle.reader.specs.Nets.{SoRead, NetsReady, noNet, edgesOf}
+use Rattle.reader.specs.Nets.{SoRead, CountsCleared, NetsReady, noNet, edgesOf}
 use Rattle.reader.specs.Rows.{RowAt}
 use Rattle.reader.specs.Whole.{lentBy, jobOf, RestFound, RestTold, JobFound, JobTold}
 use Rattle.reader.specs.declared.JobRead.{JobRead}
@@ -96,12 +95,12 @@ module _ (s : List ℕ) (order : ℕ) (w : List ℕ) (w₁ : List ℕ) (r : Head
     read-head-on = read-by lent s w₁ r told ∙ ap (λ (x : HeadRead). next (headTold s w₁ x) (restIn lent)) e
 
     -- the working numbers v, with zeros in what the nets are counted and marked in
-    module _ (v : List ℕ) (outside : Outside (loadsAt (h .shape)) (chosenAt (h .shape) - loadsAt (h .shape)) w₁ v)
-        (zeros : (i : ℕ) → loadsAt (h .shape) ≤ i → i < chosenAt (h .shape) → getD v i 0 ≡ 0) where
+    module _ (v : List ℕ) (cleared : CountsCleared (h .shape) w₁ v) where
       pub nets-may-start : (table : List ℕ) → tableSize ≤ length table → NetsReady (h .shape) v table
       nets-may-start table t = record {
-        room = omega (arith, areas-fit, outside .long);
-        zeros = λ k a b. zeros k (omega arith) b;
+        room = omega (arith, areas-fit, cleared .long);
+        demands = λ k a b. cleared .counts k (omega arith) b;
+        kept = cleared .kept;
         table-long = t;
       }
 
@@ -110,7 +109,7 @@ module _ (s : List ℕ) (order : ℕ) (w : List ℕ) (w₁ : List ℕ) (r : Head
       read-on =
           read-head-on
           ∙ ap (λ (cs : List (List ℕ)). restIn lent (record { width = h .shape .w; height = h .shape .h; layers = h .shape .k; alpha = h .alpha; beta = h .beta; gamma = h .gamma; capacities = cs; nets = h .nets }) (placeOf s c))
-          (sym (capacities-same (h .shape) w₁ v (outside .low)))
+          (sym (capacities-same (h .shape) w₁ v (cleared .low)))
 
       -- the rest after the head
       module _ (w₂ table : List ℕ) where
@@ -149,9 +148,9 @@ module _ (s : List ℕ) (order : ℕ) (w : List ℕ) (w₁ : List ℕ) (r : Head
             checked = record {
               shape = shape-is (h .shape) (head-holds .shaped);
               shaped = head-holds .shaped;
-              room = omega (arith, areas-fit, outside .long, so .long);
+              room = omega (arith, areas-fit, cleared .long, so .long);
               capacities = capacities-are;
-              loads = λ i a b. so .low i b ∙ zeros i a (omega arith);
+              loads = λ i a b. so .low i b ∙ cleared .counts i a (omega arith);
               demand = so .demands;
               marks = so .marks;
               rows = record { long = so .table-long; rows = row-is };

@@ -91,7 +91,7 @@ module _ (s : List ℕ) (g : Shape) (shaped : Shaped g) where
   nets-start w table ready = record {
     long = refl;
     low = λ k h. refl;
-    demands = λ e h. ready .zeros (demandAt g + e) (omega arith) (omega arith);
+    demands = λ e h. ready .demands (demandAt g + e) (omega arith) (omega arith);
     marks = λ t. older (tilesAt g) t (omega arith) (omega arith);
     links = λ t. older (linksAt g) t (omega arith) (omega arith);
     ok = tt;
@@ -100,11 +100,11 @@ module _ (s : List ℕ) (g : Shape) (shaped : Shaped g) where
     rows = λ i h. absurd (omega arith);
   }
     where
-      older : (a t : ℕ) → demandAt g ≤ a → a + g .t ≤ chosenAt g → getD (part a (g .t) w) t 0 < 1 * 4096
+      older : (a t : ℕ) → tilesAt g ≤ a → a + g .t ≤ chosenAt g → getD (part a (g .t) w) t 0 < 1 * 4096
       older a t h b = go (decLt t (g .t))
         where
           go : Dec (t < g .t) → getD (part a (g .t) w) t 0 < 1 * 4096
-          go (yes l) = omega (arith, part-at a (g .t) w t l, ready .zeros (a + t) (omega arith) (omega arith))
+          go (yes l) = omega (arith, part-at a (g .t) w t l, ready .kept (a + t) (omega arith) (omega arith))
           go (no l) = omega (arith, List·getD-eq-default (part a (g .t) w) 0 {n = t} (omega (arith, length-take (g .t) (drop a w))))
 
   -- ---- one net more

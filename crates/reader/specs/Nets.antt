@@ -2,10 +2,11 @@
 -- Assumes nothing.
 use mathlib.Core.List.{List, [], _++_, map}
 use mathlib.Core.Path.{_≡_, refl}
-use Prim.Native.Nat.{ℕ, suc, _+_, _*_, _≤_, _<_}
+use Prim.Native.Nat.{ℕ, suc, _+_, _-_, _*_, _≤_, _<_}
 use lib.ListN.{length, getD}
 use Rattle.edges.specs.Reading.{tilesOf, linksOf, Few}
-use Rattle.layout.specs.Areas.{demandAt, chosenAt}
+use Rattle.layout.specs.Areas.{loadsAt, demandAt, flatAt, tilesAt, chosenAt}
+use Rattle.layout.specs.Parts.{Outside}
 use Rattle.layout.specs.Table.{tableSize}
 use Rattle.layout.specs.declared.Shape.{Shape}
 use Rattle.lines.specs.Told.{refusedBy, After}
@@ -111,10 +112,23 @@ abbrev pub NetsTold : List ℕ → Shape → ℕ → ℕ → List ℕ → List �
 NetsTold s g n line w₀ w table r (NetsRefused f) = r ≡ refusedBy f
 NetsTold s g n line w₀ w table r (allRead c entries) = NetsFound s g n line w₀ w table r c entries
 
+-- the numbers from a up to b are zero, and the others are as they were
+pub record PartCleared (a b : ℕ) (w w′ : List ℕ) : Type 0 where
+  pub outside : Outside a (b - a) w w′
+  pub zeros : (k : ℕ) → a ≤ k → k < b → getD w′ k 0 ≡ 0
+
+-- what nets are counted and marked in is zero, and what lies below it is as it was
+pub record CountsCleared (g : Shape) (w w′ : List ℕ) : Type 0 where
+  pub long : length w′ ≡ length w
+  pub low : (k : ℕ) → k < loadsAt g → getD w′ k 0 ≡ getD w k 0
+  pub counts : (k : ℕ) → loadsAt g ≤ k → k < flatAt g → getD w′ k 0 ≡ 0
+  pub kept : (k : ℕ) → tilesAt g ≤ k → k < chosenAt g → getD w′ k 0 ≡ 0
+
 -- what the reading of the nets asks of the working numbers and of the table
 pub record NetsReady (g : Shape) (w table : List ℕ) : Type 0 where
   pub room : chosenAt g ≤ length w
-  pub zeros : (k : ℕ) → demandAt g ≤ k → k < chosenAt g → getD w k 0 ≡ 0
+  pub demands : (k : ℕ) → demandAt g ≤ k → k < flatAt g → getD w k 0 ≡ 0
+  pub kept : (k : ℕ) → tilesAt g ≤ k → k < chosenAt g → getD w k 0 ≡ 0
   pub table-long : tableSize ≤ length table
 
 -- after the nets ns, the definitions have read what r says of the nets that are left

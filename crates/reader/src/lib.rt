@@ -14,7 +14,7 @@ ghost use mathlib.Core.Path.{_≡_};
 ghost use Prim.Native.Nat.{ℕ, _+_, _-_, _*_, _<_, _≤_};
 ghost use lib.ListN.{length, drop, getD};
 ghost use Rattle.edges.specs.Reading.{tilesOf};
-ghost use Rattle.layout.specs.Areas.{loadsAt, tilesAt, chosenAt};
+ghost use Rattle.layout.specs.Areas.{tilesAt, chosenAt};
 ghost use Rattle.layout.specs.Parts.{Outside};
 ghost use Rattle.layout.specs.Shapes.{Shaped};
 ghost use Rattle.layout.specs.Table.{tableSize};
@@ -24,7 +24,7 @@ ghost use Rattle.model.specs.Read.{netLine, pinsLine, netLines, nets, printNeed
 ghost use Rattle.pins.specs.Pins.{NextIn, answered, mapped, pinsMarked};
 ghost use Rattle.text.specs.Refusals.{placeOf};
 ghost use Rattle.reader.specs.Rows.{rowPut};
-ghost use Rattle.reader.specs.Nets.{turnTold, bodyIn, NetReady, NetTold, NetsReady, NetsTold};
+ghost use Rattle.reader.specs.Nets.{turnTold, bodyIn, NetReady, NetTold, PartCleared, CountsCleared, NetsReady, NetsTold};
 ghost use Rattle.reader.specs.Whole.{printLent, lentBy, endIn, RestTold, JobTold};
 
 // The lines of a net: the place after them, and the entries of its `edges` line.
@@ -257,16 +257,22 @@ fn read_rest(
     }
 }
 
-// Zeroes what the nets are counted and marked in: the nets on each layer, d(e), c(e), and what is kept by tile.
+// Zeroes the numbers from `from` up to `to`.
+fn clear_part(w: &mut [u32], from: usize, to: usize)
+    requires { ⌜ (from ≤ to) × (to ≤ length (now w)) ⌝ }
+    ensures { λ _. ⌜ PartCleared from to (now (w .entry)) (now (w .exit)) ⌝ }
+{
+    tracks::clear(&mut w[from..to]);
+}
+
+// Zeroes what the nets are counted and marked in: the nets on each layer, d(e), and what is kept by tile.
 fn clear_counts(w: &mut [u32], g: Shape)
     requires { ⌜ Shaped g ⌝ }
     requires { ⌜ chosenAt g ≤ length (now w) ⌝ }
-    ensures { λ _. ⌜ Outside (loadsAt g) (chosenAt g - loadsAt g) (now (w .entry)) (now (w .exit)) ⌝ }
-    ensures { λ _. ⌜ ((i : ℕ) → loadsAt g ≤ i → i < chosenAt g → getD (now (w .exit)) i 0 ≡ 0) ⌝ }
+    ensures { λ _. ⌜ CountsCleared g (now (w .entry)) (now (w .exit)) ⌝ }
 {
-    let from = layout::loads_at(g);
-    let to = layout::chosen_at(g);
-    tracks::clear(&mut w[from..to]);
+    clear_part(w, layout::loads_at(g), layout::flat_at(g));
+    clear_part(w, layout::tiles_at(g), layout::chosen_at(g));
 }
 
 // The whole text s. The working numbers w may hold anything before; `order`, `answer` and `print` are the lengths of what else is lent. After a refusal the

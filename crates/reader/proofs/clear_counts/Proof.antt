@@ -1,55 +1,49 @@
 -- `clear_counts` meets its contract.
 -- Assumes nothing.
 use mathlib.Core.List.{List}
-use mathlib.Core.Path.{_≡_, sym, ap, _∙_}
-use Prim.Native.Nat.{ℕ, _+_, _-_, _≤_, _<_}
+use mathlib.Core.Path.{_≡_, _∙_}
+use Prim.Native.Nat.{ℕ}
 use native.Mathlib.Omega.{arith}
-use lib.ListN.{length, take, drop, getD, replicate, length-replicate, getD-replicate}
 use borrow.Author.Needs.{needs}
-use borrow.Rule.Slice.PartMut.{putMid}
-use Rattle.layout.specs.Areas.{loadsAt, chosenAt}
-use Rattle.layout.specs.Lent.{lent-part, put-part, put-outside}
-use Rattle.layout.specs.Parts.{Outside, part, part-at, part-long}
+use Rattle.layout.specs.Areas.{loadsAt, flatAt, tilesAt, chosenAt}
+use Rattle.layout.specs.declared.Shape.{Shape}
+use Rattle.reader.specs.Nets.{PartCleared, CountsCleared}
 use Rattle.reader.proofs.clear_counts.Statement.{statement}
 use Rattle.reader.proofs.clear_counts.Tie as tie
 
--- a part comes back as zeros
-module _ (a k : ℕ) (w : List ℕ) (from to : ℕ) (from-is : from ≡ a) (to-is : to ≡ a + k) (room : a + k ≤ length w) (p : List ℕ)
-    (is : p ≡ replicate (length (take (to - from) (drop from w))) 0) where
-  size : length (take (to - from) (drop from w)) ≡ k
-  size = ap length (lent-part a k w from to from-is to-is) ∙ part-long a k w room
+-- both parts are cleared, one after the other
+both-cleared : (g : Shape) (w w₁ w₂ : List ℕ) (a b c d : ℕ) → a ≡ loadsAt g → b ≡ flatAt g → c ≡ tilesAt g → d ≡ chosenAt g
+    → PartCleared a b w w₁ → PartCleared c d w₁ w₂ → CountsCleared g w w₂
+both-cleared g w w₁ w₂ a b c d ea eb ec ed p q = record {
+  long = q .outside .long ∙ p .outside .long;
+  low = λ k h. q .outside .low k (omega arith) ∙ p .outside .low k (omega arith);
+  counts = λ k h l. q .outside .low k (omega arith) ∙ p .zeros k (omega arith) (omega arith);
+  kept = λ k h l. q .zeros k (omega arith) (omega arith);
+}
 
-  long : length p ≡ k
-  long = ap length is ∙ length-replicate (length (take (to - from) (drop from w))) 0 ∙ size
+clear-part-requires : tie.Need-clear-part-requires
+clear-part-requires c κs =
+    let s = c .before .before .before .before in
+    (omega (arith, c .before .loads-at .ensures .0, c .flat-at .ensures .0), omega (arith, c .flat-at .ensures .0, s .pre .1))
 
-  cleared-outside : Outside a k w (putMid from (to - from) w p)
-  cleared-outside = put-outside a k w from to from-is to-is p room long
-
-  cleared-zero : (i : ℕ) → a ≤ i → i < a + k → getD (putMid from (to - from) w p) i 0 ≡ 0
-  cleared-zero i low high =
-      let v = putMid from (to - from) w p in
-      let at : a + (i - a) ≡ i = omega arith in
-      let b : i - a < k = omega arith in
-      ap (λ (n : ℕ). getD v n 0) (sym at) ∙ sym (part-at a k v (i - a) b) ∙ ap (λ (l : List ℕ). getD l (i - a) 0) (put-part a k w from to from-is to-is p room long ∙ is)
-      ∙ getD-replicate (length (take (to - from) (drop from w))) (i - a) 0 0 (omega (arith, size))
+clear-part-requires-2 : tie.Need-clear-part-requires-2
+clear-part-requires-2 c κs =
+    let s = c .before .before .before .before .before .before .before .before .before .before in
+    (omega (arith, c .before .tiles-at .ensures .0, c .chosen-at .ensures .0), omega (arith, c .chosen-at .ensures .0, s .pre .1, c .before .before .before .before .before .clear-part .ensures .outside .long))
 
 returns : tie.Need-returns
 returns c =
-    let x = c .before .before .before .before .before .before .before .args in
-    let r = c .before .before .before .before .before .before .before .pre in
-    let from = c .before .before .before .before .before .loads-at in
-    let to = c .before .before .before .before .chosen-at in
-    let p = c .before .before .clear in
-    let n = chosenAt (x .g) - loadsAt (x .g) in
-    let end : to .result ≡ loadsAt (x .g) + n = omega (arith, to .ensures .0) in
-    let room : loadsAt (x .g) + n ≤ length (x .w .now) = omega (arith, r .1) in (
-      cleared-outside (loadsAt (x .g)) n (x .w .now) (from .result) (to .result) (from .ensures .0) end room (p .last .0) (p .ensures),
-      λ i a b. cleared-zero (loadsAt (x .g)) n (x .w .now) (from .result) (to .result) (from .ensures .0) end room (p .last .0) (p .ensures) i a (omega arith),
-    )
+    let x = c .before .before .before .before .before .before .before .before .before .before .before .before .before .args in
+    let p = c .before .before .before .before .before .before .before .before .clear-part in
+    let q = c .before .before .clear-part2 in
+    both-cleared (x .g) (x .w .now) (p .last .0) (q .last .0)
+    (c .before .before .before .before .before .before .before .before .before .before .loads-at .result) (c .before .before .before .before .before .before .before .before .before .flat-at .result) (c .before .before .before .before .tiles-at .result) (c .before .before .before .chosen-at .result)
+    (c .before .before .before .before .before .before .before .before .before .before .loads-at .ensures .0) (c .before .before .before .before .before .before .before .before .before .flat-at .ensures .0) (c .before .before .before .before .tiles-at .ensures .0) (c .before .before .before .chosen-at .ensures .0)
+    (p .ensures) (q .ensures)
 
 pub clear-counts-spec : {M : Type 1} → statement M
 clear-counts-spec =
     tie.close
     (tie.spec
-    (λ c κs. search needs) (λ c κs. search needs) (λ c. search needs) (λ c. search needs) (λ c. search needs) (λ c. search needs)
-    (λ c κs. search needs) (λ c. search needs) returns)
+    (λ c κs. search needs) (λ c κs. search needs) clear-part-requires (λ c κs. search needs) (λ c κs. search needs) clear-part-requires-2
+    (λ c. c .before .before .clear-part2 .ensures .outside .long ∙ c .before .before .before .before .before .before .before .before .clear-part .ensures .outside .long) returns)

@@ -41,7 +41,7 @@ read-rest-requires c κs =
           short-text (x .s .now) (x .order) (x .w .now) (y .last .1 .0) (y .result) (y .ensures .0) (x .answer) (x .print) (f .0 .0) (f .0 .1 .0) (f .1) (y .ensures .1 .0) (y .ensures .1 .1),
           k .nets,
         ),
-        nets-may-start (x .s .now) (x .order) (x .w .now) (y .last .1 .0) (y .result) (y .ensures .0) (x .answer) (x .print) (f .0 .0) (f .0 .1 .0) (f .1) (y .ensures .1 .0) (y .ensures .1 .1) (v .last .0) (v .ensures .0) (v .ensures .1) (x .table .now) (z .pre),
+        nets-may-start (x .s .now) (x .order) (x .w .now) (y .last .1 .0) (y .result) (y .ensures .0) (x .answer) (x .print) (f .0 .0) (f .0 .1 .0) (f .1) (y .ensures .1 .0) (y .ensures .1 .1) (v .last .0) (v .ensures) (x .table .now) (z .pre),
       ),
     )
 
@@ -53,8 +53,8 @@ returns-2 c =
     let f = c .before .before .before .before .before .before .before .before .before .before .before .before .h .given in
     let v = c .before .before .before .before .before .before .before .before .before .clear-counts in
     let u = c .before .before .before .before .read-rest in (
-      job-told (x .s .now) (x .order) (x .w .now) (y .last .1 .0) (y .result) (y .ensures .0) (x .answer) (x .print) (f .0 .0) (f .0 .1 .0) (f .1) (y .ensures .1 .0) (y .ensures .1 .1) (v .last .0) (v .ensures .0) (v .ensures .1) (u .last .1 .1 .1 .0) (u .last .1 .1 .1 .1 .0) (u .result) (u .ensures .0),
-      (u .ensures .1 .0 ∙ v .ensures .0 .long ∙ y .ensures .1 .1, u .ensures .1 .1),
+      job-told (x .s .now) (x .order) (x .w .now) (y .last .1 .0) (y .result) (y .ensures .0) (x .answer) (x .print) (f .0 .0) (f .0 .1 .0) (f .1) (y .ensures .1 .0) (y .ensures .1 .1) (v .last .0) (v .ensures) (u .last .1 .1 .1 .0) (u .last .1 .1 .1 .1 .0) (u .result) (u .ensures .0),
+      (u .ensures .1 .0 ∙ v .ensures .long ∙ y .ensures .1 .1, u .ensures .1 .1),
     )
 
 pub read-job-spec : {M : Type 1} → statement M
