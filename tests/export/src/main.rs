@@ -142,7 +142,7 @@ mod tests {
 
     impl Planner for Faulty {
         fn plan(&self, text: &[u8], work: &mut [u32], order: &mut [Entry], answer: &mut [u8]) -> Returned {
-            let mut returned = Library::default().plan(text, work, order, answer);
+            let mut returned = Library.plan(text, work, order, answer);
             self.0(work, order, &mut returned);
             returned
         }
@@ -155,7 +155,7 @@ mod tests {
             answer: &mut [u8],
             print: &mut [u8],
         ) -> Returned {
-            let mut returned = Library::default().print(text, work, order, answer, print);
+            let mut returned = Library.print(text, work, order, answer, print);
             self.0(work, order, &mut returned);
             returned
         }
