@@ -55,7 +55,7 @@ fn edge_capacity(w: &[u32], g: Shape, edge: usize) -> u32
     ensures { λ r. ⌜ r ≡ capacitySum g (now (w .entry)) edge ⌝ }
 {
     let at = edge_at(g, edge);
-    // the most common stack, so that the sum has a known length
+    // a sum of known length is laid out flat by the compiler
     if g.k == 8 {
         return sum_of(w, at, 8);
     }

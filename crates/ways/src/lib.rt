@@ -22,15 +22,15 @@ pub fn way_on(g: Shape, here: usize, y: usize, d: usize) -> Way
     requires { ⌜ (here < g .t) × (here / g .w ≡ y) × (d ≤ 1) ⌝ }
     ensures { λ r. ⌜ r ≡ wayOf g here d ⌝ }
 {
-    if d == 0 {
-        return Way {
+    match d {
+        0 => Way {
             tile: here + 1,
             edge: here - y,
-        };
-    }
-    Way {
-        tile: here + g.w,
-        edge: g.east + here,
+        },
+        _ => Way {
+            tile: here + g.w,
+            edge: g.east + here,
+        },
     }
 }
 

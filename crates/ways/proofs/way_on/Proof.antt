@@ -7,11 +7,8 @@ use borrow.Author.Needs.{needs}
 use Rattle.ways.proofs.way_on.Statement.{statement}
 use Rattle.ways.proofs.way_on.Tie as tie
 
-returns-2 : tie.Need-returns-2
-returns-2 c =
-    let x = c .before .before .before in
-    let one : x .args .d ≡ 1 = omega (arith, x .pre .1 .2, c .before .before .if1 .left) in
-    rw one
+one : (m : tie.At-match-rest) → m .before .args .d ≡ 1
+one m = omega (arith, m .before .pre .1 .2, m .match .rest)
 
 pub way-on-spec : {M : Type 1} → statement M
 way-on-spec =
@@ -19,7 +16,7 @@ way-on-spec =
     (tie.spec
     (λ c. omega (arith, c .before .pre .1 .0, c .before .pre .0 .t-most))
     (λ c. omega (arith, c .before .pre .1 .1, div-le-self (c .before .args .here) (c .before .args .g .w)))
-    (λ c. rw (c .if1 .taken, c .before .pre .1 .1))
     (λ c. omega (arith, c .before .before .pre .1 .0, c .before .before .pre .0 .t-most, c .before .before .pre .0 .w-most))
     (λ c. omega (arith, c .before .before .before .pre .1 .0, c .before .before .before .pre .0 .t-most))
-    returns-2)
+    (λ c. rw (c .match .keys1, c .before .pre .1 .1))
+    (λ c. rw (one (c .before .before))))
