@@ -17,7 +17,7 @@ use Rattle.text.specs.Refusals.{numberOf, lineOf}
 use Rattle.text.specs.declared.Fault.the-variants.{Form, Range, Turn, PinTwice, EdgeTwice, Ring, Apart}
 use Rattle.text.specs.declared.Refusal.{Refusal}
 use Rattle.text.specs.declared.Refusal.the-variants.{TooLong, Line, Working, Order, Short}
-use Rattle.theory.specs.links.Faults.{number-range}
+use Rattle.theory.specs.links.Table.{number-range}
 
 -- no refusal has the number 0
 some-number : (f : Refusal) → 1 ≤ numberOf f

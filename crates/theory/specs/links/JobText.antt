@@ -1,0 +1,149 @@
+-- The job text as one chain of lines: it reads as the definition does.
+-- Assumes nothing.
+use mathlib.Core.Path.{_≡_, refl, _∙_, subst}
+use mathlib.Core.List.{List, [], _∷_, _++_}
+use mathlib.Core.Bool.{Bool, true, false, _&&_}
+use mathlib.Core.Option.{Option, none, some}
+use mathlib.Core.Logic.{_⊎_, _↔_}
+use Prim.Native.Nat.{ℕ, zero, suc, _<_}
+use native.Mathlib.Omega.{arith}
+use lib.Dec.{T, leb}
+use lib.ListN.{length}
+use Rattle.model.specs.Grid.{eastCount, northCount}
+use Rattle.model.specs.Job.{Net, Job, entryCount}
+use Rattle.model.specs.Limits.{leastSide, mostSide, leastLayers, mostLayers, mostWeight, mostNets, mostText}
+use Rattle.model.specs.Read.{Place, Result, Reading, next, need, capacityLine, capacityLines, netLine, pinsLine, edgesLine, netLines, nets, Lent, workingNeed, printNeed, printFits, jobIn, read}
+use Rattle.theory.specs.links.Chain.{Rows, no-more, row, Chain, done, reads, tests, ends, run}
+use Rattle.theory.specs.links.Words.{leb-fails, and-fails}
+use Rattle.theory.specs.links.Kinds.{rangedKind, capacityKind, netKind, pinsKind, edgesKind, next-next, ranged-is, capacity-is, net-is, pins-is, edges-is}
+
+-- the reading starts before the first line
+abbrev pub start : List ℕ → Place
+start text = record { line = 0; rest = text }
+
+-- ---- the lines in their order
+
+module _ {A : Type 0} where
+  -- "for each layer, from 1 (the bottom) up, `east` and `north`"
+  abbrev pub layersChain : ℕ → ℕ → ℕ → (List (List ℕ) → Chain A) → Chain A
+  layersChain W H zero k = k []
+  layersChain W H (suc K) k =
+      reads (capacityKind "east" (eastCount W H)) (λ east.
+      reads (capacityKind "north" (northCount W H)) (λ north.
+      layersChain W H K (λ above. k ((east ++ north) ∷ above))))
+
+  -- "for each net `net`, `pins`, `edges`": m nets, from number i on
+  abbrev pub netsChain : ℕ → ℕ → ℕ → ℕ → ℕ → (List Net → Chain A) → Chain A
+  netsChain W H K i zero k = k []
+  netsChain W H K i (suc m) k =
+      reads (netKind i) (λ u.
+      reads (pinsKind W H K) (λ pins.
+      reads (edgesKind W H pins) (λ edges.
+      netsChain W H K (suc i) m (λ others. k (record { pins = pins; edges = edges } ∷ others)))))
+
+-- "answer list or print buffer too short", for N nets and A entries
+abbrev pub RoomShort : Lent → ℕ → ℕ → Type 0
+RoomShort lent N A = (lent .answer < A) ⊎ ((m : ℕ) × (lent .print ≡ some m) × (m < printNeed N A))
+
+pub print-fails : (n : ℕ) (o : Option ℕ) → (printFits n o ≡ false) ↔ ((m : ℕ) × (o ≡ some m) × (m < n))
+print-fails n none = (λ e. absurd (subst T e tt), λ h. no-some (h .1))
+  where
+    no-some : {m : ℕ} → _≡_ {A = Option ℕ} none (some m) → true ≡ false
+    no-some e = let z : _≡_ {A = ℕ} 0 1 = cc in absurd (omega arith)
+print-fails n (some m) = (λ e. (m, refl, leb-fails n m .0 e), λ h. leb-fails n m .1 (same-some (h .1) (h .2)))
+  where
+    same-some : {k : ℕ} → some m ≡ some k → k < n → m < n
+    same-some {k} e h = let z : m ≡ k = cc in omega arith
+
+-- one row by itself
+abbrev pub one : (n : ℕ) (b : Bool) (Wrong : Type 0) → (b ≡ false) ↔ Wrong → Rows (Unit {0})
+one n b Wrong w = row n b Wrong (λ h. w) no-more
+
+-- "9, 3: fewer working numbers than needed"
+abbrev pub workingRow : Lent → ℕ → ℕ → ℕ → Rows (Unit {0})
+workingRow lent W H K = one 9 (leb (workingNeed W H K) (lent .working)) (lent .working < workingNeed W H K) (leb-fails (workingNeed W H K) (lent .working))
+
+-- "10, the `nets` line: fewer order entries than N"
+abbrev pub orderRow : Lent → ℕ → Rows (Unit {0})
+orderRow lent N = one 10 (leb N (lent .order)) (lent .order < N) (leb-fails N (lent .order))
+
+-- "11, the last line: answer list or print buffer too short"
+abbrev pub roomRow : Lent → ℕ → Job → Rows (Unit {0})
+roomRow lent N job =
+    one 11 (leb (entryCount job) (lent .answer) && printFits (printNeed N (entryCount job)) (lent .print)) (RoomShort lent N (entryCount job))
+    (and-fails (leb (entryCount job) (lent .answer)) (printFits (printNeed N (entryCount job)) (lent .print))
+    (leb-fails (entryCount job) (lent .answer)) (print-fails (printNeed N (entryCount job)) (lent .print)))
+
+-- "text after the last line" is 2 on the line after it
+abbrev pub endChain : Lent → ℕ → Job → Chain Job
+endChain lent N job = ends (tests (roomRow lent N job) (done job))
+
+-- "One key per line, in this fixed order"; "9 is found right after line 3, 10 after the `nets` line, 11 after the whole text"
+abbrev pub jobChain : Lent → Chain Job
+jobChain lent =
+    reads (rangedKind "width" leastSide mostSide) (λ W.
+    reads (rangedKind "height" leastSide mostSide) (λ H.
+    reads (rangedKind "layers" leastLayers mostLayers) (λ K.
+    tests (workingRow lent W H K)
+    (reads (rangedKind "alpha" 0 mostWeight) (λ a.
+    reads (rangedKind "beta" 0 mostWeight) (λ b.
+    reads (rangedKind "gamma" 0 mostWeight) (λ g.
+    layersChain W H K (λ cs.
+    reads (rangedKind "nets" 0 mostNets) (λ N.
+    tests (orderRow lent N)
+    (netsChain W H K 1 N (λ ns.
+    endChain lent N (record { width = W; height = H; layers = K; alpha = a; beta = b; gamma = g; capacities = cs; nets = ns }))))))))))))
+
+-- "1, 0: text above 1,048,576 bytes"; "Number 1 comes first"
+abbrev pub textChain : Lent → List ℕ → Chain Job
+textChain lent text = tests (one 1 (leb (length text) mostText) (mostText < length text) (leb-fails (length text) mostText)) (jobChain lent)
+
+-- ---- it reads as the definition does
+
+same-next : {A B : Type 0} {r s : Result A} {f g : A → Reading B} → r ≡ s → ((a : A) (p : Place) → f a p ≡ g a p) → next r f ≡ next s g
+same-next e h = λ i. next (e i) (λ a p. h a p i)
+
+behind-same : {A B : Type 0} (r : Result A) {f g : A → Reading B} → ((a : A) (p : Place) → f a p ≡ g a p) → next r f ≡ next r g
+behind-same r h = λ i. next r (λ a p. h a p i)
+
+module _ {A : Type 0} (W H : ℕ) where
+  layers-run : (K : ℕ) (k : List (List ℕ) → Chain A) (p : Place) → next (capacityLines W H K p) (λ cs. run (k cs)) ≡ run (layersChain W H K k) p
+  layers-run zero k p = refl
+  layers-run (suc K) k p =
+      next-next (capacityLine "east" (eastCount W H) p) _ _
+      ∙ same-next (capacity-is "east" (eastCount W H) p) (λ east q.
+      next-next (capacityLine "north" (northCount W H) q) _ _
+      ∙ same-next (capacity-is "north" (northCount W H) q) (λ north r.
+      next-next (capacityLines W H K r) _ _ ∙ layers-run K (λ above. k ((east ++ north) ∷ above)) r))
+
+  nets-run : (K i m : ℕ) (k : List Net → Chain A) (p : Place) → next (nets W H K i m p) (λ ns. run (k ns)) ≡ run (netsChain W H K i m k) p
+  unfolding netLines
+  nets-run K i zero k p = refl
+  nets-run K i (suc m) k p =
+      next-next (netLines W H K i p) _ _
+      ∙ next-next (netLine i p) _ _
+      ∙ same-next (net-is i p) (λ u q.
+      next-next (pinsLine W H K q) _ _
+      ∙ same-next (pins-is W H K q) (λ pins r.
+      next-next (edgesLine W H pins r) _ _
+      ∙ same-next (edges-is W H pins r) (λ edges s.
+      next-next (nets W H K (suc i) m s) _ _ ∙ nets-run K (suc i) m (λ others. k (record { pins = pins; edges = edges } ∷ others)) s)))
+
+job-run : (lent : Lent) (p : Place) → jobIn lent p ≡ run (jobChain lent) p
+unfolding jobIn
+job-run lent p =
+    same-next (ranged-is "width" leastSide mostSide p) (λ W p1.
+    same-next (ranged-is "height" leastSide mostSide p1) (λ H p2.
+    same-next (ranged-is "layers" leastLayers mostLayers p2) (λ K p3.
+    behind-same (need 9 (leb (workingNeed W H K) (lent .working)) p3) (λ u p4.
+    same-next (ranged-is "alpha" 0 mostWeight p4) (λ a p5.
+    same-next (ranged-is "beta" 0 mostWeight p5) (λ b p6.
+    same-next (ranged-is "gamma" 0 mostWeight p6) (λ g p7.
+    behind-same (capacityLines W H K p7) (λ cs p8.
+    same-next (ranged-is "nets" 0 mostNets p8) (λ N p9.
+    behind-same (need 10 (leb N (lent .order)) p9) (λ u10 p10. nets-run W H K 1 N _ p10)))
+    ∙ layers-run W H K _ p7)))))))
+
+pub read-is : (lent : Lent) (text : List ℕ) → read lent text ≡ run (textChain lent text) (start text)
+unfolding read
+read-is lent text = behind-same (need 1 (leb (length text) mostText) (start text)) (λ u p. job-run lent p)

@@ -1,0 +1,136 @@
+-- The kinds of lines of a job text, as a table: key, form, rows of tests with their numbers and words. A new number on a line is one more row, a new line one
+-- more kind. Each reads as the definition does.
+-- Assumes nothing.
+use mathlib.Core.Path.{_≡_, refl, _∙_}
+use mathlib.Core.List.{List, map}
+use mathlib.Core.Bool.{Bool, true, false, _&&_, not}
+use mathlib.Core.Logic.{_≢_}
+use Prim.Native.Nat.{ℕ, _≤_, _<_}
+use Prim.Native.String.{String}
+use lib.Dec.{eqb, leb}
+use lib.ListN.{length}
+use Rattle.model.specs.Job.{Pin}
+use Rattle.model.specs.Limits.{mostCapacity}
+use Rattle.model.specs.Lists.{all, twice}
+use Rattle.model.specs.Text.{number, numbers}
+use Rattle.model.specs.Tree.{ring, joined}
+use Rattle.model.specs.Read.{Place, Result, refused, found, Reading, next, form, need, give, line, numberLine, ranged, capacityLine, Triple, pinEntries, edgeEntries, pinInside, edgeInside, pinAt, edgeAt, samePin, netLine, pinsLine, edgesLine}
+use Rattle.theory.specs.links.Chain.{no-more, row, Kind, lineOf}
+use Rattle.theory.specs.links.Words.{leb-fails, eqb-fails, range-fails, Some, all-fails, PinInside, pin-fails, EdgeInside, edge-fails, PinTwice, pins-twice, EdgeTwice, edges-twice, HasRing, ring-fails, NotReached, joined-fails}
+
+-- ---- the table
+
+-- "3, the line: a number outside its range"
+abbrev pub OutOfRange : ℕ → ℕ → ℕ → Type 0
+OutOfRange low high n = (low ≤ n) × (n ≤ high) → ⊥
+
+abbrev pub CapacitiesOut : List ℕ → Type 0
+CapacitiesOut = Some (λ c. mostCapacity < c)
+
+abbrev pub PinsOut : ℕ → ℕ → ℕ → List Triple → Type 0
+PinsOut W H K = Some (λ p. PinInside W H K p → ⊥)
+
+-- "an edge leaving the grid"
+abbrev pub EdgesOut : ℕ → ℕ → List Triple → Type 0
+EdgesOut W H = Some (λ e. EdgeInside W H e → ⊥)
+
+-- the pins and the edges that entries name
+abbrev pub pinsOf : ℕ → List Triple → List Pin
+pinsOf W = map (pinAt W)
+
+abbrev pub edgesOf : ℕ → ℕ → List Triple → List ℕ
+edgesOf W H = map (edgeAt W H)
+
+-- a line with one number from low to high: 2, 3
+abbrev pub rangedKind : String → ℕ → ℕ → Kind ℕ ℕ
+rangedKind key low high = record {
+  key = key;
+  value = number;
+  rows = λ n. row 3 (leb low n && leb n high) (OutOfRange low high n) (λ h. range-fails low high n) no-more;
+  result = λ n. n;
+}
+
+-- a line of capacities: 2, "list length" too, and 3
+abbrev pub capacityKind : String → ℕ → Kind (List ℕ) (List ℕ)
+capacityKind key size = record {
+  key = key;
+  value = numbers;
+  rows = λ cs.
+      row 2 (eqb (length cs) size) (length cs ≢ size) (λ h. eqb-fails (length cs) size)
+      (row 3 (all (λ c. leb c mostCapacity) cs) (CapacitiesOut cs)
+      (λ h. all-fails (λ c. leb c mostCapacity) (λ c. mostCapacity < c) (λ c. leb-fails c mostCapacity) cs)
+      no-more);
+  result = λ cs. cs;
+}
+
+-- the line `net` of net i: 2, and "4, the line: net number out of turn"
+abbrev pub netKind : ℕ → Kind ℕ (Unit {0})
+netKind i = record {
+  key = "net";
+  value = number;
+  rows = λ n. row 4 (eqb n i) (n ≢ i) (λ h. eqb-fails n i) no-more;
+  result = λ n. tt;
+}
+
+-- the line `pins`: 2, 3, and "5, the line: same tile and layer twice on `pins`"
+abbrev pub pinsKind : ℕ → ℕ → ℕ → Kind (List Triple) (List Pin)
+pinsKind W H K = record {
+  key = "pins";
+  value = pinEntries;
+  rows = λ ps.
+      row 3 (all (pinInside W H K) ps) (PinsOut W H K ps)
+      (λ h. all-fails (pinInside W H K) (λ p. PinInside W H K p → ⊥) (pin-fails W H K) ps)
+      (row 5 (not (twice samePin (pinsOf W ps))) (PinTwice (pinsOf W ps)) (λ h. pins-twice (pinsOf W ps))
+      no-more);
+  result = pinsOf W;
+}
+
+-- the line `edges`: 2, 3, "6, the line: same edge twice on `edges`", "7, the `edges` line: the net's edges contain a ring", "8, the `edges` line: no ring, but
+-- a pin or edge not reached from the first pin's tile along the edges"
+abbrev pub edgesKind : ℕ → ℕ → List Pin → Kind (List Triple) (List ℕ)
+edgesKind W H pins = record {
+  key = "edges";
+  value = edgeEntries;
+  rows = λ es.
+      row 3 (all (edgeInside W H) es) (EdgesOut W H es)
+      (λ h. all-fails (edgeInside W H) (λ e. EdgeInside W H e → ⊥) (edge-fails W H) es)
+      (row 6 (not (twice eqb (edgesOf W H es))) (EdgeTwice (edgesOf W H es)) (λ h. edges-twice (edgesOf W H es))
+      (row 7 (not (ring W H (edgesOf W H es))) (HasRing W H (edgesOf W H es))
+      (λ (h : (Unit {0} × (EdgesOut W H es → ⊥)) × (EdgeTwice (edgesOf W H es) → ⊥)). ring-fails W H (edgesOf W H es) (h .1))
+      (row 8 (joined W H pins (edgesOf W H es)) (NotReached W H pins (edgesOf W H es)) (λ h. joined-fails W H pins (edgesOf W H es))
+      no-more)));
+  result = edgesOf W H;
+}
+
+-- ---- the definitions read so
+
+pub next-next : {A B C : Type 0} (r : Result A) (f : A → Reading B) (g : B → Reading C) → next (next r f) g ≡ next r (λ a p. next (f a p) g)
+next-next (refused n l) f g = refl
+next-next (found a p) f g = refl
+
+need-last : (n : ℕ) (b : Bool) (p : Place) → need n b p ≡ next (need n b p) (λ u. give tt)
+need-last n true p = refl
+need-last n false p = refl
+
+pub ranged-is : (key : String) (low high : ℕ) (p : Place) → ranged key low high p ≡ lineOf (rangedKind key low high) p
+unfolding ranged lineOf
+ranged-is key low high p = next-next (line key p) (λ v. form (number v)) (λ n. λ q. next (need 3 (leb low n && leb n high) q) (λ u. give n))
+
+pub capacity-is : (key : String) (size : ℕ) (p : Place) → capacityLine key size p ≡ lineOf (capacityKind key size) p
+unfolding capacityLine lineOf
+capacity-is key size p = refl
+
+pub net-is : (i : ℕ) (p : Place) → netLine i p ≡ lineOf (netKind i) p
+unfolding lineOf
+net-is i p =
+    (λ j. next (numberLine "net" p) (λ n q. need-last 4 (eqb n i) q j))
+    ∙ next-next (line "net" p) (λ v. form (number v)) (λ n. λ q. next (need 4 (eqb n i) q) (λ u. give tt))
+
+module _ (W H : ℕ) where
+  pub pins-is : (K : ℕ) (p : Place) → pinsLine W H K p ≡ lineOf (pinsKind W H K) p
+  unfolding pinsLine lineOf
+  pins-is K p = refl
+
+  pub edges-is : (pins : List Pin) (p : Place) → edgesLine W H pins p ≡ lineOf (edgesKind W H pins) p
+  unfolding edgesLine lineOf
+  edges-is pins p = refl
