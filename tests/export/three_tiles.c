@@ -9,6 +9,32 @@
 #include <stdlib.h>
 #include <string.h>
 
+/* Both structs as the library has them: each field with its size and its offset, and nothing behind the last. */
+#define FIELD(type, field, size, offset) \
+    _Static_assert(sizeof((type){0}.field) == (size) && offsetof(type, field) == (offset), #type "." #field)
+
+FIELD(layerplan_result, number, 8, 0);
+FIELD(layerplan_result, line, 8, 8);
+FIELD(layerplan_result, vias, 8, 16);
+FIELD(layerplan_result, total, 8, 24);
+FIELD(layerplan_result, maximum, 8, 32);
+FIELD(layerplan_result, length, 8, 40);
+_Static_assert(sizeof(layerplan_result) == 48 && _Alignof(layerplan_result) == 8, "layerplan_result");
+
+FIELD(layerplan_entry, net, 4, 0);
+FIELD(layerplan_entry, score, 8, 8);
+_Static_assert(sizeof(layerplan_entry) == 16 && _Alignof(layerplan_entry) == 8, "layerplan_entry");
+
+/* Both calls with their types. */
+_Static_assert(_Generic(&layerplan_plan,
+                        layerplan_result (*)(const uint8_t *, size_t, uint32_t *, size_t, layerplan_entry *, size_t,
+                                             uint8_t *, size_t): 1,
+                        default: 0), "layerplan_plan");
+_Static_assert(_Generic(&layerplan_print,
+                        layerplan_result (*)(const uint8_t *, size_t, uint32_t *, size_t, layerplan_entry *, size_t,
+                                             uint8_t *, size_t, uint8_t *, size_t): 1,
+                        default: 0), "layerplan_print");
+
 enum {
     WIDTH = 3, HEIGHT = 1, LAYERS = 2, NETS = 2, ENTRIES = 3,
     MORE = 5,      /* elements beyond what is needed */
@@ -92,8 +118,7 @@ int main(int count, char **names)
     size_t job_length = load(names[1], job), plan_length = load(names[2], plan);
     layerplan_result r;
 
-    /* an entry as the library has it, and the lengths of the header's formulas, written out */
-    expect(sizeof(layerplan_entry) == 16 && offsetof(layerplan_entry, score) == 8, "an entry of the order list");
+    /* the lengths of the header's formulas, written out */
     expect(WORK == 108 && PRINT == 390, "lengths needed");
     expect(LAYERPLAN_WORK_MOST == 276224 && LAYERPLAN_PRINT_MOST == 611924, "lengths for every job");
 
