@@ -73,15 +73,13 @@ module _ (lent : Lent) (text : List ℕ) where
   abbrev pub Nets : ℕ → Type 1
   Nets N = (s : Chain Job) × (q : Place) × At (tests (orderRow lent N) s) q
 
-  -- line l is a line of net i, one of the N nets: it has the number first + 2K + 3i
-  pub record OfNet (first i l : ℕ) : Type 1 where
-    pub K : ℕ
+  -- K is the value of `layers`, and net i one of the N nets
+  pub record OfNet (K i : ℕ) : Type 1 where
     pub N : ℕ
     pub layers : Layers K
     pub nets : Nets N
     pub from : 1 ≤ i
     pub upto : i ≤ N
-    pub line : l ≡ first + 2 * K + 3 * i
 
   -- ---- the rows: why each number is returned, with the line l
 
@@ -104,26 +102,27 @@ module _ (lent : Lent) (text : List ℕ) where
 
   -- "4, the line: net number out of turn": the `net` line of net i is line 5 + 2K + 3i
   pub data TurnAt (l : ℕ) : Type 1 where
-    out-of-turn : (i m : ℕ) → LineAt (netKind i) m l → OfNet 5 i l → m ≢ i → TurnAt l
+    out-of-turn : (K i m : ℕ) → OfNet K i → LineAt (netKind i) m (5 + 2 * K + 3 * i) → m ≢ i → l ≡ 5 + 2 * K + 3 * i → TurnAt l
 
   -- "5, the line: same tile and layer twice on `pins`": that of net i is line 6 + 2K + 3i
   pub data PinTwiceAt (l : ℕ) : Type 1 where
-    pin-twice : (W H K i : ℕ) (ps : List Triple) → LineAt (pinsKind W H K) ps l → OfNet 6 i l → (PinsOut W H K ps → ⊥) → PinTwice (pinsOf W ps) → PinTwiceAt l
+    pin-twice : (W H K i : ℕ) (ps : List Triple) → OfNet K i → LineAt (pinsKind W H K) ps (6 + 2 * K + 3 * i) → (PinsOut W H K ps → ⊥)
+        → PinTwice (pinsOf W ps) → l ≡ 6 + 2 * K + 3 * i → PinTwiceAt l
 
   -- "6, the line: same edge twice on `edges`": that of net i is line 7 + 2K + 3i
   pub data EdgeTwiceAt (l : ℕ) : Type 1 where
-    edge-twice : (W H i : ℕ) (pins : List Pin) (es : List Triple) → LineAt (edgesKind W H pins) es l → OfNet 7 i l → (EdgesOut W H es → ⊥)
-        → EdgeTwice (edgesOf W H es) → EdgeTwiceAt l
+    edge-twice : (W H K i : ℕ) (pins : List Pin) (es : List Triple) → OfNet K i → LineAt (edgesKind W H pins) es (7 + 2 * K + 3 * i) → (EdgesOut W H es → ⊥)
+        → EdgeTwice (edgesOf W H es) → l ≡ 7 + 2 * K + 3 * i → EdgeTwiceAt l
 
   -- "7, the `edges` line: the net's edges contain a ring"
   pub data RingAt (l : ℕ) : Type 1 where
-    has-ring : (W H i : ℕ) (pins : List Pin) (es : List Triple) → LineAt (edgesKind W H pins) es l → OfNet 7 i l → (EdgesOut W H es → ⊥)
-        → (EdgeTwice (edgesOf W H es) → ⊥) → HasRing W H (edgesOf W H es) → RingAt l
+    has-ring : (W H K i : ℕ) (pins : List Pin) (es : List Triple) → OfNet K i → LineAt (edgesKind W H pins) es (7 + 2 * K + 3 * i) → (EdgesOut W H es → ⊥)
+        → (EdgeTwice (edgesOf W H es) → ⊥) → HasRing W H (edgesOf W H es) → l ≡ 7 + 2 * K + 3 * i → RingAt l
 
   -- "8, the `edges` line: no ring, but a pin or edge not reached from the first pin's tile along the edges"
   pub data ReachAt (l : ℕ) : Type 1 where
-    not-reached : (W H i : ℕ) (pins : List Pin) (es : List Triple) → LineAt (edgesKind W H pins) es l → OfNet 7 i l → (EdgesOut W H es → ⊥)
-        → (EdgeTwice (edgesOf W H es) → ⊥) → (HasRing W H (edgesOf W H es) → ⊥) → NotReached W H pins (edgesOf W H es) → ReachAt l
+    not-reached : (W H K i : ℕ) (pins : List Pin) (es : List Triple) → OfNet K i → LineAt (edgesKind W H pins) es (7 + 2 * K + 3 * i) → (EdgesOut W H es → ⊥)
+        → (EdgeTwice (edgesOf W H es) → ⊥) → (HasRing W H (edgesOf W H es) → ⊥) → NotReached W H pins (edgesOf W H es) → l ≡ 7 + 2 * K + 3 * i → ReachAt l
 
   -- "9, 3: fewer working numbers than needed", "right after line 3": the line read last is line 3
   pub data WorkingAt (l : ℕ) : Type 1 where
@@ -160,6 +159,9 @@ module _ (lent : Lent) (text : List ℕ) where
   abbrev Refused : ℕ → ℕ → Type 0
   Refused n l = read lent text ≡ refused n l
 
+  on-line : (n l : ℕ) {m : ℕ} → l ≡ m → Refused n m → Refused n l
+  on-line n l z e = subst (Refused n) (sym z) e
+
   long-refused : (l : ℕ) → TooLong l → Refused 1 l
   long-refused l (too-long h z) = by 1 l begun (inl (h, refl), z)
 
@@ -175,19 +177,19 @@ module _ (lent : Lent) (text : List ℕ) where
   range-refused l (edge-out W H pins es d w) = by-line 3 l d (inl (w, refl))
 
   turn-refused : (l : ℕ) → TurnAt l → Refused 4 l
-  turn-refused l (out-of-turn i m d o w) = by-line 4 l d (inl (w, refl))
+  turn-refused l (out-of-turn K i m o d w z) = on-line 4 l z (by-line 4 (5 + 2 * K + 3 * i) d (inl (w, refl)))
 
   pin-refused : (l : ℕ) → PinTwiceAt l → Refused 5 l
-  pin-refused l (pin-twice W H K i ps d o u w) = by-line 5 l d (inr (u, inl (w, refl)))
+  pin-refused l (pin-twice W H K i ps o d u w z) = on-line 5 l z (by-line 5 (6 + 2 * K + 3 * i) d (inr (u, inl (w, refl))))
 
   edge-refused : (l : ℕ) → EdgeTwiceAt l → Refused 6 l
-  edge-refused l (edge-twice W H i pins es d o u w) = by-line 6 l d (inr (u, inl (w, refl)))
+  edge-refused l (edge-twice W H K i pins es o d u w z) = on-line 6 l z (by-line 6 (7 + 2 * K + 3 * i) d (inr (u, inl (w, refl))))
 
   ring-refused : (l : ℕ) → RingAt l → Refused 7 l
-  ring-refused l (has-ring W H i pins es d o u v w) = by-line 7 l d (inr (u, inr (v, inl (w, refl))))
+  ring-refused l (has-ring W H K i pins es o d u v w z) = on-line 7 l z (by-line 7 (7 + 2 * K + 3 * i) d (inr (u, inr (v, inl (w, refl)))))
 
   reach-refused : (l : ℕ) → ReachAt l → Refused 8 l
-  reach-refused l (not-reached W H i pins es d o u v x w) = by-line 8 l d (inr (u, inr (v, inr (x, inl (w, refl)))))
+  reach-refused l (not-reached W H K i pins es o d u v x w z) = on-line 8 l z (by-line 8 (7 + 2 * K + 3 * i) d (inr (u, inr (v, inr (x, inl (w, refl))))))
 
   working-refused : (l : ℕ) → WorkingAt l → Refused 9 l
   working-refused l (working-short W H K s q a w z y) = by 9 l a (inl (w, refl), y ∙ sym z)
@@ -245,29 +247,33 @@ module _ (lent : Lent) (text : List ℕ) where
       told n cs d (inr (u, inl (w, e))) = because 3 n (suc (q .line)) e (capacity-out key size cs d (long cs u) w)
       told n cs d (inr (u, inr (v, w))) = absurd w
 
-  net-on : (i : ℕ) {f : Unit {0} → Chain Job} {q : Place} → OfNet 5 i (suc (q .line)) → At (reads (netKind i) f) q → Goes f q → End
-  net-on i {q = q} o a = reads-on a told
+  net-on : (K i : ℕ) {f : Unit {0} → Chain Job} {q : Place} → OfNet K i → suc (q .line) ≡ 5 + 2 * K + 3 * i → At (reads (netKind i) f) q → Goes f q → End
+  net-on K i {q = q} o z a = reads-on a told
     where
       told : (n m : ℕ) → LineAt (netKind i) m (suc (q .line)) → First (netKind i .rows m) n → Why n (suc (q .line))
-      told n m d (inl (w, e)) = because 4 n (suc (q .line)) e (out-of-turn i m d o w)
+      told n m d (inl (w, e)) = because 4 n (suc (q .line)) e (out-of-turn K i m o (subst (LineAt (netKind i) m) z d) w z)
       told n m d (inr (u, w)) = absurd w
 
-  pins-on : (W H K i : ℕ) {f : List Pin → Chain Job} {q : Place} → OfNet 6 i (suc (q .line)) → At (reads (pinsKind W H K) f) q → Goes f q → End
-  pins-on W H K i {q = q} o a = reads-on a told
+  pins-on : (W H K i : ℕ) {f : List Pin → Chain Job} {q : Place} → OfNet K i → suc (q .line) ≡ 6 + 2 * K + 3 * i → At (reads (pinsKind W H K) f) q → Goes f q → End
+  pins-on W H K i {q = q} o z a = reads-on a told
     where
       told : (n : ℕ) (ps : List Triple) → LineAt (pinsKind W H K) ps (suc (q .line)) → First (pinsKind W H K .rows ps) n → Why n (suc (q .line))
       told n ps d (inl (w, e)) = because 3 n (suc (q .line)) e (pin-out W H K ps d w)
-      told n ps d (inr (u, inl (w, e))) = because 5 n (suc (q .line)) e (pin-twice W H K i ps d o u w)
+      told n ps d (inr (u, inl (w, e))) = because 5 n (suc (q .line)) e (pin-twice W H K i ps o (subst (LineAt (pinsKind W H K) ps) z d) u w z)
       told n ps d (inr (u, inr (v, w))) = absurd w
 
-  edges-on : (W H i : ℕ) (pins : List Pin) {f : List ℕ → Chain Job} {q : Place} → OfNet 7 i (suc (q .line)) → At (reads (edgesKind W H pins) f) q → Goes f q → End
-  edges-on W H i pins {q = q} o a = reads-on a told
+  edges-on : (W H K i : ℕ) (pins : List Pin) {f : List ℕ → Chain Job} {q : Place} → OfNet K i → suc (q .line) ≡ 7 + 2 * K + 3 * i
+      → At (reads (edgesKind W H pins) f) q → Goes f q → End
+  edges-on W H K i pins {q = q} o z a = reads-on a told
     where
+      here : (es : List Triple) → LineAt (edgesKind W H pins) es (suc (q .line)) → LineAt (edgesKind W H pins) es (7 + 2 * K + 3 * i)
+      here es = subst (LineAt (edgesKind W H pins) es) z
+
       told : (n : ℕ) (es : List Triple) → LineAt (edgesKind W H pins) es (suc (q .line)) → First (edgesKind W H pins .rows es) n → Why n (suc (q .line))
       told n es d (inl (w, e)) = because 3 n (suc (q .line)) e (edge-out W H pins es d w)
-      told n es d (inr (u, inl (w, e))) = because 6 n (suc (q .line)) e (edge-twice W H i pins es d o u w)
-      told n es d (inr (u, inr (v, inl (w, e)))) = because 7 n (suc (q .line)) e (has-ring W H i pins es d o u v w)
-      told n es d (inr (u, inr (v, inr (x, inl (w, e))))) = because 8 n (suc (q .line)) e (not-reached W H i pins es d o u v x w)
+      told n es d (inr (u, inl (w, e))) = because 6 n (suc (q .line)) e (edge-twice W H K i pins es o (here es d) u w z)
+      told n es d (inr (u, inr (v, inl (w, e)))) = because 7 n (suc (q .line)) e (has-ring W H K i pins es o (here es d) u v w z)
+      told n es d (inr (u, inr (v, inr (x, inl (w, e))))) = because 8 n (suc (q .line)) e (not-reached W H K i pins es o (here es d) u v x w z)
       told n es d (inr (u, inr (v, inr (x, inr (y, w))))) = absurd w
 
   -- two lines for each layer
@@ -285,13 +291,13 @@ module _ (lent : Lent) (text : List ℕ) where
         → ((ns : List Net) (r : Place) → r .line ≡ 7 + 2 * K + 3 * N → At (k ns) r → End) → End
     nets-on i zero {q = q} a low high e g = g [] q (omega arith) a
     nets-on i (suc m) {q = q} a low high e g =
-        net-on i (of 5 (omega arith)) a (λ u q1 e1 a1.
-        pins-on W H K i (of 6 (omega arith)) a1 (λ pins q2 e2 a2.
-        edges-on W H i pins (of 7 (omega arith)) a2 (λ edges q3 e3 a3.
+        net-on K i of (omega arith) a (λ u q1 e1 a1.
+        pins-on W H K i of (omega arith) a1 (λ pins q2 e2 a2.
+        edges-on W H K i pins of (omega arith) a2 (λ edges q3 e3 a3.
         nets-on (suc i) m a3 (omega arith) (omega arith) (omega arith) (λ others. g (record { pins = pins; edges = edges } ∷ others)))))
       where
-        of : (first : ℕ) {l : ℕ} → l ≡ first + 2 * K + 3 * i → OfNet first i l
-        of first z = record { K = K; N = N; layers = layers; nets = nets; from = low; upto = omega arith; line = z }
+        of : OfNet K i
+        of = record { N = N; layers = layers; nets = nets; from = low; upto = omega arith }
 
   -- one test at the line read last
   test-on : (m : ℕ) {b : Bool} {Wrong : Type 0} {w : (b ≡ false) ↔ Wrong} {s : Chain Job} {q : Place} → At (tests (one m b Wrong w) s) q
