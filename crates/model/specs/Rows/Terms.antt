@@ -261,7 +261,22 @@ turned =
 abbrev far : Job
 far = jobWith 4 1 3 ((1 ∷ 1 ∷ 1 ∷ []) ∷ (1 ∷ 1 ∷ 1 ∷ []) ∷ (1 ∷ 1 ∷ 1 ∷ []) ∷ []) (netWith (pin 2 3 ∷ pin 3 2 ∷ []) (0 ∷ 1 ∷ 2 ∷ []) ∷ [])
 
+-- two nets on one edge, each with a pin on layer 1, and these capacities of the layers 1 and 2; their scores are equal
+abbrev pub twoOn : ℕ → ℕ → Job
+twoOn a b = jobWith 2 1 2 ((a ∷ []) ∷ (b ∷ []) ∷ []) (netWith (pin 0 1 ∷ []) (0 ∷ []) ∷ netWith (pin 0 1 ∷ []) (0 ∷ []) ∷ [])
+
+-- Net 1 has edges 0 and 1, net 2, whose score is higher, edge 1, where there is no capacity: TO is 2, and 1 is allowed on a layer. Edge 0 has
+-- capacity for its net, on layer 1.
+abbrev pub lift : Job
+lift = jobWith 3 1 2 ((1 ∷ 0 ∷ []) ∷ (0 ∷ 0 ∷ []) ∷ []) (netWith (pin 0 1 ∷ []) (0 ∷ 1 ∷ []) ∷ netWith (pin 1 1 ∷ []) (1 ∷ []) ∷ [])
+
+-- no nets
+abbrev pub netless : Job
+netless = jobWith 2 1 2 ((1 ∷ []) ∷ (1 ∷ []) ∷ []) []
+
 abbrev pub planRows : List (Row (List (List ℕ)))
 planRows =
     (plan lifted gives (1 ∷ []) ∷ (2 ∷ []) ∷ (1 ∷ []) ∷ []) ∷ (plan turned gives (1 ∷ 2 ∷ []) ∷ (1 ∷ []) ∷ [])
-    ∷ (plan far gives (2 ∷ 2 ∷ 2 ∷ []) ∷ []) ∷ (plan crowded gives (1 ∷ 1 ∷ []) ∷ (1 ∷ []) ∷ (1 ∷ []) ∷ (2 ∷ 2 ∷ []) ∷ []) ∷ []
+    ∷ (plan far gives (2 ∷ 2 ∷ 2 ∷ []) ∷ []) ∷ (plan crowded gives (1 ∷ 1 ∷ []) ∷ (1 ∷ []) ∷ (1 ∷ []) ∷ (2 ∷ 2 ∷ []) ∷ [])
+    ∷ (plan (twoOn 2 2) gives (1 ∷ []) ∷ (1 ∷ []) ∷ []) ∷ (plan (twoOn 2 0) gives (1 ∷ []) ∷ (1 ∷ []) ∷ []) ∷ (plan (twoOn 1 1) gives (1 ∷ []) ∷ (2 ∷ []) ∷ [])
+    ∷ (plan (twoOn 0 0) gives (1 ∷ []) ∷ (2 ∷ []) ∷ []) ∷ (plan lift gives (1 ∷ 2 ∷ []) ∷ (1 ∷ []) ∷ []) ∷ []
