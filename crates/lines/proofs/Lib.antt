@@ -5,3 +5,4 @@ mod Keys
 pub mod Ranges
 mod Steps
 mod Follows
+mod Going

@@ -18,6 +18,8 @@ use Rattle.text.specs.declared.Numeral.{Numeral}
 use Rattle.text.specs.declared.Numeral.the-variants.{Value, Malformed}
 use Rattle.lines.specs.Entries.{endedAt, Numbered, consTo, ender, listAt, listLine, finish}
 use Rattle.lines.specs.Spread.{spread, kept, Room}
+use Rattle.lines.specs.Told.{listTold, listIn, answerOf}
+use Rattle.lines.specs.declared.Listed.{Listed}
 
 -- ---- the room
 
@@ -50,10 +52,13 @@ and-false false = refl
 
 -- ---- the numbers
 
-pub ender-comma : (left : ℕ) → 0 < left → (left ≡ 1 → ⊥) → ender (left - 1) ≡ 44
-ender-comma zero h n = absurd (not-suc-le-zero h)
-ender-comma (suc zero) h n = absurd (n refl)
-ender-comma (suc (suc m)) h n = rw sub-one
+pub ender-comma : (left : ℕ) → 1 < left → ender (left - 1) ≡ 44
+ender-comma zero h = absurd (omega arith)
+ender-comma (suc zero) h = absurd (omega arith)
+ender-comma (suc (suc m)) h = rw sub-one
+
+pub ender-last : (left : ℕ) → left ≡ 1 → ender (left - 1) ≡ 10
+ender-last left h = rw h
 
 module _ (s : List ℕ) where
   pub list-none : (left i : ℕ) → 0 < left → endedAt s i (ender (left - 1)) ≡ Malformed → listAt left s i ≡ none
@@ -102,14 +107,24 @@ module _ (k line : ℕ) where
       go false true r = refl
       go false false r = refl
 
-  pub finish-fine : (inside : Bool) (w : List ℕ) (to : ℕ) (u : List ℕ) → inside ≡ true → finish k line inside w to (some ([], u)) ≡ found w (record { line = line; rest = u })
-  finish-fine inside w to u e = rw e
-
-  pub finish-range : (inside : Bool) (w : List ℕ) (to : ℕ) (u : List ℕ) → inside ≡ false → finish k line inside w to (some ([], u)) ≡ refused 3 line
-  finish-range inside w to u e = rw e
-
   -- the number v with its end at i, up to m, is stored, and what is known goes on
   pub turn : (s : List ℕ) (left i v m : ℕ) (inside inside' : Bool) (w w' : List ℕ) (to : ℕ) → 0 < left → endedAt s i (ender (left - 1)) ≡ Value v m →
       inside' ≡ (inside && leb v mostCapacity) → w' ≡ kept w to v →
       finish k line inside w to (listAt left s i) ≡ finish k line inside' w' (to + k) (listAt (left - 1) s m)
   turn s left i v m inside inside' w w' to h e f g = rw (list-more s left i v m h e, f, g) (finish-more inside w to v (listAt (left - 1) s m))
+
+-- nothing is left
+module _ (line : ℕ) (s : List ℕ) (i : ℕ) (inside : Bool) (r : Listed) (e : r ≡ answerOf i line inside) where
+  pub answer-told : (k : ℕ) (w : List ℕ) (to left : ℕ) → left ≤ 0 → listTold s w r ≡ finish k line inside w to (listAt left s i)
+  answer-told k w to left h = rw (e, list-done s left i h) (go inside)
+    where
+      go : (q : Bool) → listTold s w (answerOf i line q) ≡ finish k line q w to (some ([], drop i s))
+      go true = refl
+      go false = refl
+
+  pub answer-in : i ≤ length s → listIn (length s) line r
+  answer-in h = rw e (go inside)
+    where
+      go : (q : Bool) → listIn (length s) line (answerOf i line q)
+      go true = record { place = h; lines = refl }
+      go false = tt

@@ -2,4 +2,5 @@ pub mod Keyed
 pub mod Entries
 pub mod Spread
 pub mod Told
+pub mod Ran
 pub mod Reads

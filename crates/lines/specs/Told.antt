@@ -1,12 +1,15 @@
 -- What the answers of this crate's functions say, in the definitions' words.
 -- Assumes nothing.
+use mathlib.Core.Bool.{Bool, cond}
 use mathlib.Core.Path.{_≡_}
 use mathlib.Core.List.{List}
 use Prim.Native.Nat.{ℕ, _≤_}
 use Rattle.model.specs.Read.{Place, Result, refused, found}
 use Rattle.text.specs.Refusals.{placeOf, numberOf, lineOf}
 use Rattle.text.specs.declared.Cursor.{Cursor}
+use Rattle.text.specs.declared.Fault.the-variants.{Range}
 use Rattle.text.specs.declared.Refusal.{Refusal}
+use Rattle.text.specs.declared.Refusal.the-variants.{Line}
 use Rattle.lines.specs.declared.Field.{Field}
 use Rattle.lines.specs.declared.Field.the-variants.{Value, Refused}
 use Rattle.lines.specs.declared.Listed.{Listed}
@@ -32,6 +35,10 @@ fieldTold s (Refused r) = refusedBy r
 abbrev pub listTold : List ℕ → List ℕ → Listed → Result (List ℕ)
 listTold s w (Next c) = found w (placeOf s c)
 listTold s w (Unlisted r) = refusedBy r
+
+-- the answer for a list whose form is right, read up to `at`: whether all its capacities are in their range
+abbrev pub answerOf : ℕ → ℕ → Bool → Listed
+answerOf at line inside = cond inside (Next (record { at = at; line = line })) (Unlisted (Line Range line))
 
 -- the cursor stands in a text of this size, after this line
 pub record After (size line : ℕ) (c : Cursor) : Type 0 where

@@ -9,12 +9,14 @@ ghost use Prim.Native.Nat.{_+_, _-_, _<_, _≤_};
 ghost use lib.Dec.{leb};
 ghost use lib.ListN.{length};
 ghost use Rattle.model.specs.Limits.{mostCapacity};
+ghost use Rattle.text.specs.Entries.{Short};
 ghost use Rattle.text.specs.Refusals.{placeOf};
 ghost use Rattle.lines.specs.Keyed.{oneLine, numberLineBy, rangedBy, capacityLineBy};
 ghost use Rattle.lines.specs.Spread.{kept, spread, Room};
-ghost use Rattle.lines.specs.Told.{fieldTold, fieldIn, listTold, listIn, mapped};
+ghost use Rattle.lines.specs.Told.{fieldTold, fieldIn, listTold, listIn, answerOf, mapped};
 ghost use Rattle.lines.specs.Reads.{inRange, Ready, NumberRead, behindOf, ThreeReady, ThreeRead};
-ghost use Rattle.lines.specs.Entries.{endedAt, ender, listAt, listLine, finish};
+ghost use Rattle.lines.specs.Entries.{endedAt, listAt, listLine, finish};
+ghost use Rattle.lines.specs.Ran.{Stands, Ran};
 
 // "capacities, comma between, lowest y first, then lowest x, each 0 to 255"
 const MOST_CAPACITY: usize = 255;
@@ -193,30 +195,77 @@ fn put(w: &mut [u32], to: usize, v: usize, inside: bool) -> bool
     inside
 }
 
-// The number at `at`, which mostly has one or two digits, the byte `end` behind it, and the place after that.
-fn entry_at(s: &[u8], at: usize, end: u8) -> Numeral
-    requires { ⌜ (0 < end) × (end < 48) ⌝ }
-    ensures { λ r. ⌜ r ≡ endedAt (now (s .entry)) at end ⌝ }
+// The places from which three bytes are left are those before this one. It is the same for a whole text, so that a loop over places tests each
+// by one comparison.
+fn short_until(s: &[u8]) -> usize
+    ensures { λ r. ⌜ r ≡ length (now (s .entry)) - 2 ⌝ }
 {
-    if !text::room(s, at, 3) {
-        return ended(s, at, end);
+    if s.len() < 2 { 0 } else { s.len() - 2 }
+}
+
+// The number at `at`, a comma behind it, and the place after that, where it has one or two digits and three bytes are left: the common case,
+// without a loop. Malformed says nothing.
+fn short_comma(s: &[u8], at: usize) -> Numeral
+    ensures { λ r. ⌜ Short (now (s .entry)) at 44 r ⌝ }
+{
+    if short_until(s) <= at {
+        return Numeral::Malformed;
     }
-    match text::short(s, at, end) {
-        Numeral::Malformed => ended(s, at, end),
-        Numeral::Value(v, next) => Numeral::Value(v, next),
+    text::short(s, at, 44)
+}
+
+// How far the capacities of a line are read: the place of the next one and where it is stored, how many come before the last, and whether all so far
+// are in their range.
+struct Run {
+    at: usize,
+    to: usize,
+    left: usize,
+    inside: bool,
+}
+
+// The capacities from here on that have one or two digits, up to another or to the last.
+fn short_run(s: &[u8], w: &mut [u32], k: usize, from: Run) -> Run
+    requires { ⌜ Stands (now s) k (now w) from ⌝ }
+    ensures { λ r. ⌜ Ran (now (s .entry)) k (now (w .entry)) from (now (w .exit)) r ⌝ }
+{
+    let mut at = from.at;
+    let mut to = from.to;
+    let mut left = from.left;
+    let mut inside = from.inside;
+    while 0 < left {
+        let Numeral::Value(v, next) = short_comma(s, at) else {
+            return Run {
+                at,
+                to,
+                left,
+                inside,
+            };
+        };
+        inside = put(w, to, v, inside);
+        at = next;
+        to += k;
+        left -= 1;
+    }
+    Run {
+        at,
+        to,
+        left,
+        inside,
     }
 }
 
-// The byte behind a number of which `left` are left, it among them.
-fn end_byte(left: usize) -> u8
-    requires { ⌜ 0 < left ⌝ }
-    ensures { λ r. ⌜ r ≡ ender (left - 1) ⌝ }
-    ensures { λ r. ⌜ (0 < r) × (r < 48) ⌝ }
+// The answer for a list whose form is right, read up to `at`: whether all its capacities are in their range.
+fn answer(at: usize, line: usize, inside: bool) -> Listed
+    ensures { λ r. ⌜ r ≡ answerOf at line inside ⌝ }
 {
-    if left == 1 { 10 } else { 44 }
+    if inside {
+        return Listed::Next(Cursor { at, line });
+    }
+    Listed::Refused(Refusal::Line(Fault::Range, line))
 }
 
 // `count` capacities from `at` on, on line `line`: the first is stored at `first`, and each other `k` places after the one before.
+// Behind the last is byte 10, and behind each other a comma. Those of one or two digits are read in runs.
 fn entries(
     s: &[u8],
     at: usize,
@@ -232,23 +281,33 @@ fn entries(
     ensures { λ r. ⌜ listIn (length (now (s .entry))) line r ⌝ }
     ensures { λ _. ⌜ length (now (w .exit)) ≡ length (now (w .entry)) ⌝ }
 {
-    let mut i = at;
-    let mut to = first;
-    let mut left = count;
-    let mut inside = true;
-    while 0 < left {
-        let Numeral::Value(v, next) = entry_at(s, i, end_byte(left)) else {
+    if count == 0 {
+        return answer(at, line, true);
+    }
+    let start = Run {
+        at,
+        to: first,
+        left: count - 1,
+        inside: true,
+    };
+    let mut r = short_run(s, w, k, start);
+    while 0 < r.left {
+        let Numeral::Value(v, next) = ended(s, r.at, 44) else {
             return Listed::Refused(Refusal::Line(Fault::Form, line));
         };
-        inside = put(w, to, v, inside);
-        i = next;
-        to += k;
-        left -= 1;
+        let more = Run {
+            at: next,
+            to: r.to + k,
+            left: r.left - 1,
+            inside: put(w, r.to, v, r.inside),
+        };
+        r = short_run(s, w, k, more);
     }
-    if inside {
-        return Listed::Next(Cursor { at: i, line });
-    }
-    Listed::Refused(Refusal::Line(Fault::Range, line))
+    let Numeral::Value(v, next) = ended(s, r.at, 10) else {
+        return Listed::Refused(Refusal::Line(Fault::Form, line));
+    };
+    let all = put(w, r.to, v, r.inside);
+    answer(next, line, all)
 }
 
 // The same from `at` on up to the line's end, where `count` may be 0: then the value is empty.

@@ -1,74 +1,149 @@
--- `entries` meets its contract.
+-- `entries` meets its contract. The loop's invariant: what was read so far leads from the first run's end to the one at hand.
 -- Assumes nothing.
-use Prim.Native.Nat.{_+_, _-_, _≤_}
-use Rattle.lines.proofs.Places.{ended-within}
-use Rattle.lines.proofs.Steps.{room-in, room-next, room-kept, kept-length, list-none, list-done, turn, finish-fine, finish-range}
-use mathlib.Core.Path.{_≡_, refl, sym, ap, _∙_}
 use mathlib.Core.Bool.{true}
-use lib.ListN.{length, drop}
-use Rattle.lines.specs.Entries.{endedAt, listAt, finish}
-use Rattle.lines.specs.Spread.{Room}
+use mathlib.Core.Path.{_≡_, refl, sym, ap, _∙_}
+use Prim.Native.Nat.{_+_, _-_}
+use lib.ListN.{length}
+use Rattle.lines.specs.Entries.{listAt, finish}
+use Rattle.lines.specs.Ran.{onward, Ran}
+use Rattle.lines.proofs.Steps.{kept-length, answer-told, answer-in}
+use Rattle.lines.proofs.Going.{ran-start, ran-then, next-in, next-small, one-bad, one-more, last-bad, last-told, last-in, start, start-stands, start-onward}
 use borrow.Author.Needs.{needs}
 use native.Mathlib.Omega.{arith}
 use Rattle.lines.proofs.entries.Statement.{statement}
 use Rattle.lines.proofs.entries.Tie as tie
 
 abbrev Inv-loop : tie.InvT-loop
-Inv-loop s at line w₀ first k count i₀ to₀ left₀ inside₀ w i to left inside =
-    (i ≤ length s) × (length w ≡ length w₀) × Room k to left (length w)
-    × (finish k line true w₀ first (listAt count s at) ≡ finish k line inside w to (listAt left s i))
+Inv-loop s at line w₀ first k count r₀ w r = Ran s k w₀ r₀ w r
 
 abbrev μ-loop : tie.MeasureT-loop
-μ-loop s at line w₀ first k count i₀ to₀ left₀ inside₀ w i to left inside = left
+μ-loop s at line w₀ first k count r₀ w r = r .left
+
+-- from the first capacity on, and from the place at hand, the line's answer is the same
+module _ (l : tie.At-loop Inv-loop μ-loop) where
+  so-far : let q = l .before .before .before in
+      let a = q .before .before .before .before .before .args in
+      Ran (a .s .now) (a .k) (a .w .now) (start (a .s .now) (a .k) (a .w .now) (a .at) (a .first) (a .count) (q .before .before .if1 .left)) (l .loop .w) (l .loop .r)
+  so-far =
+      let q = l .before .before .before in
+      let a = q .before .before .before .before .before .args in
+      ran-then (a .s .now) (a .k) (q .short-run .ensures) (l .loop .inv)
+
+  same-answer : let q = l .before .before .before in
+      let a = q .before .before .before .before .before .args in
+      finish (a .k) (a .line) true (a .w .now) (a .first) (listAt (a .count) (a .s .now) (a .at)) ≡ onward (a .k) (a .line) (a .s .now) (l .loop .w) (l .loop .r)
+  same-answer =
+      let q = l .before .before .before in
+      let a = q .before .before .before .before .before .args in
+      sym (start-onward (a .s .now) (a .k) (a .w .now) (a .at) (a .first) (a .count) (q .before .before .if1 .left) (a .line)) ∙ so-far .same (a .line)
+
+-- one capacity of any length, with a comma behind it
+one : (p : tie.After-put Inv-loop μ-loop) → let v = p .before .before .before .before .before in
+    let l = v .before .before .before .before .before in
+    let a = l .before .before .before .before .before .before .before .before .args in
+    Ran (a .s .now) (a .k) (l .loop .w) (l .loop .r) (p .put .last .0)
+    (record { at = v .v .given .0 .1 .0; to = l .loop .r .to + a .k; left = l .loop .r .left - 1; inside = p .put .result })
+one p =
+    let v = p .before .before .before .before .before in
+    let n = v .before .before in
+    let l = n .before .before .before in
+    let a = l .before .before .before .before .before .before .before .before .args in
+    let g = v .v .given in
+    one-more (a .s .now) (a .k) (l .loop .w) (l .loop .r) (l .loop .inv .stands) (n .before .if2 .taken) (g .0 .0) (g .0 .1 .0) (p .put .result) (p .put .last .0) (sym (n .ended .ensures) ∙ g .1) (p .put .ensures .0) (p .put .ensures .1)
+
+returns : tie.Need-returns Inv-loop μ-loop
+returns c =
+    let a = c .before .before .before .before .args in (
+      answer-told (a .line) (a .s .now) (a .at) true (c .answer .result) (c .answer .ensures) (a .k) (a .w .now) (a .first) (a .count) (omega arith),
+      (answer-in (a .line) (a .s .now) (a .at) true (c .answer .result) (c .answer .ensures) (c .before .before .before .before .pre .0), refl),
+    )
+
+returns-2 : tie.Need-returns-2 Inv-loop μ-loop
+returns-2 c =
+    let n = c .before .before in
+    let l = n .before .before .before in
+    let a = l .before .before .before .before .before .before .before .before .args in
+    (sym (same-answer l ∙ one-bad (a .s .now) (a .k) (l .loop .w) (l .loop .r) (l .loop .inv .stands) (n .before .if2 .taken) (a .line) (sym (n .ended .ensures) ∙ c .enum-told .given .1)), (tt, so-far l .long))
+
+add-to : tie.Need-add-t24 Inv-loop μ-loop
+add-to c =
+    let l = c .before .before .before .before .before .before .before in
+    let a = l .before .before .before .before .before .before .before .before .args in
+    omega (arith, next-small (a .s .now) (a .k) (l .loop .w) (l .loop .r) (l .loop .inv .stands))
+
+put-requires : tie.Need-put-requires Inv-loop μ-loop
+put-requires c κs =
+    let l = c .before .before .before .before .before .before .before .before .before in
+    let a = l .before .before .before .before .before .before .before .before .args in
+    next-in (a .s .now) (a .k) (l .loop .w) (l .loop .r) (l .loop .inv .stands)
+
+loop-again : tie.Need-loop-again Inv-loop μ-loop
+loop-again c =
+    let q = c .before .before in
+    let p = q .before .before .before .before in
+    let l = p .before .before .before .before .before .before .before .before .before .before in
+    let a = l .before .before .before .before .before .before .before .before .args in
+    ran-then (a .s .now) (a .k) (l .loop .inv) (ran-then (a .s .now) (a .k) (one p) (q .short-run2 .ensures))
+
+returns-3 : tie.Need-returns-3 Inv-loop μ-loop
+returns-3 c =
+    let n = c .before .before in
+    let l = n .before .before .before in
+    let a = l .before .before .before .before .before .before .before .before .args in
+    (sym (same-answer l ∙ last-bad (a .s .now) (a .k) (l .loop .w) (l .loop .r) (l .loop .inv .stands) (n .before .if2 .left) (a .line) (sym (n .ended2 .ensures) ∙ c .enum-told2 .given .1)), (tt, so-far l .long))
+
+put-requires-2 : tie.Need-put-requires-2 Inv-loop μ-loop
+put-requires-2 c κs =
+    let l = c .before .before .before .before .before .before .before in
+    let a = l .before .before .before .before .before .before .before .before .args in
+    next-in (a .s .now) (a .k) (l .loop .w) (l .loop .r) (l .loop .inv .stands)
+
+same-length-3 : tie.Need-same-length-3 Inv-loop μ-loop
+same-length-3 c =
+    let p = c .before .before .before in
+    let v = p .before .before .before in
+    let l = v .before .before .before .before .before in
+    ap length (p .put2 .ensures .1) ∙ kept-length (l .loop .w) (l .loop .r .to) (v .v2 .given .0 .0) ∙ so-far l .long
+
+returns-4 : tie.Need-returns-4 Inv-loop μ-loop
+returns-4 c =
+    let p = c .before .before .before in
+    let v = p .before .before .before in
+    let n = v .before .before in
+    let l = n .before .before .before in
+    let a = l .before .before .before .before .before .before .before .before .args in
+    let g = v .v2 .given in
+    let e = sym (n .ended2 .ensures) ∙ g .1 in (
+      last-told (a .s .now) (a .k) (l .loop .w) (l .loop .r) (l .loop .inv .stands) (n .before .if2 .left) (a .line) (g .0 .0) (g .0 .1 .0) (p .put2 .result) (p .put2 .last .0) e (p .put2 .ensures .0) (p .put2 .ensures .1) (c .answer2 .result) (c .answer2 .ensures)
+          ∙ sym (same-answer l),
+      (
+        last-in (a .s .now) (a .k) (l .loop .w) (l .loop .r) (l .loop .inv .stands) (n .before .if2 .left) (a .line) (g .0 .0) (g .0 .1 .0) (p .put2 .result) (p .put2 .last .0) e (p .put2 .ensures .0) (p .put2 .ensures .1) (c .answer2 .result) (c .answer2 .ensures),
+        same-length-3 c,
+      ),
+    )
 
 pub entries-spec : {M : Type 1} → statement M
 entries-spec =
     tie.close
     (tie.spec
     Inv-loop μ-loop
-    (λ c. (c .before .before .pre .0, refl, c .before .before .pre .1, refl))
-    (λ c κs. search needs) (λ c κs. search needs) (λ c. search needs) (λ c. search needs) (λ c. search needs)
-    (λ c. let c4 = c .before .before .before .before in
-    let c5 = c4 .before in
-    let c8 = c5 .before .before .before in
-    let l = c5 .loop in
-    let a = c8 .args in
-    (sym (l .inv .3 ∙ rw (list-none (a .s .now) (l .left) (l .i) (c4 .loop-test .taken) (ap (endedAt (a .s .now) (l .i)) (sym (c .before .before .before .end-byte .ensures .0)) ∙ sym (c .before .before .entry-at .ensures) ∙ c .enum-told .given .1))), (tt, l .inv .1)))
-    (λ c κs. let c6 = c .before .before .before .before .before .before in
-    let c7 = c6 .before in
-    let c10 = c7 .before .before .before in
-    let l = c7 .loop in
-    room-in (c10 .args .k) (l .to) (length (l .w)) (l .left) (c6 .loop-test .taken) (l .inv .2))
-    (λ c. let c9 = c .before .before .before .before .before .before .before .before .before in
-    let c10 = c9 .before in
-    let c13 = c10 .before .before .before in
-    let l = c10 .loop in
-    let r : Room (c13 .args .k) (l .to + c13 .args .k) (l .left - 1) (length (l .w)) = room-next (c13 .args .k) (l .to) (length (l .w)) (l .left) (c9 .loop-test .taken) (l .inv .2) in
-    omega (arith, r .small))
-    (λ c. search needs) (λ c. search needs)
-    (λ c. let c5 = c .before .before .before .before .before in
-    let c7 = c5 .before .before in
-    let c8 = c7 .before in
-    let c9 = c8 .before in
-    let c10 = c9 .before in
-    let c13 = c10 .before .before .before in
-    let l = c10 .loop in
-    let a = c13 .args in
-    let g = c5 .v .given in
-    let p = c .before .before .put in
-    let e = ap (endedAt (a .s .now) (l .i)) (sym (c8 .end-byte .ensures .0)) ∙ sym (c7 .entry-at .ensures) ∙ g .1 in (
-      ended-within (a .s .now) (l .i) (c8 .end-byte .result) (g .0 .0) (g .0 .1 .0) (c8 .end-byte .ensures .1 .0) (sym (c7 .entry-at .ensures) ∙ g .1),
-      ap length (p .ensures .1) ∙ kept-length (l .w) (l .to) (g .0 .0) ∙ l .inv .1,
-      room-kept (a .k) (l .to) (l .left) (g .0 .0) (l .w) (p .last .0) (p .ensures .1) (c9 .loop-test .taken) (l .inv .2),
-      l .inv .3 ∙ turn (a .k) (a .line) (a .s .now) (l .left) (l .i) (g .0 .0) (g .0 .1 .0) (l .inside) (p .result) (l .w) (p .last .0) (l .to) (c9 .loop-test .taken) e (p .ensures .0) (p .ensures .1),
-    ))
-    (λ c. search needs)
-    (λ c. let c5 = c .before .before .before .before .before in
-    let l = c .before .before .loop in
-    let a = c5 .args in
-    (sym (l .inv .3 ∙ rw (list-done (a .s .now) (l .left) (l .i) (c .before .loop-test .left)) (finish-fine (a .k) (a .line) (l .inside) (l .w) (l .to) (drop (l .i) (a .s .now)) (c .if1 .taken))), (record { place = l .inv .0; lines = refl }, l .inv .1)))
-    (λ c. search needs)
-    (λ c. let c5 = c .before .before .before .before .before in
-    let l = c .before .before .loop in
-    let a = c5 .args in
-    (sym (l .inv .3 ∙ rw (list-done (a .s .now) (l .left) (l .i) (c .before .loop-test .left)) (finish-range (a .k) (a .line) (l .inside) (l .w) (l .to) (drop (l .i) (a .s .now)) (c .if1 .left))), (tt, l .inv .1))))
+    (λ c κs. search needs)
+    returns
+    (λ c. omega arith)
+    (λ c κs. let x = c .before .before .before .before in
+    start-stands (x .args .s .now) (x .args .k) (x .args .w .now) (x .args .at) (x .args .first) (x .args .count) (c .before .if1 .left) (x .pre .0) (x .pre .1))
+    (λ c. let q = c .before .before in
+    ran-start (q .before .before .before .before .before .args .s .now) (q .before .before .before .before .before .args .k) (q .short-run .ensures .stands))
+    (λ c κs. omega arith) (λ c. search needs) (λ c. search needs)
+    (λ c. so-far (c .before .before .before .before .before) .long)
+    returns-2 add-to
+    (λ c. omega (arith, c .before .before .before .before .before .before .if2 .taken))
+    put-requires
+    (λ c κs. one (c .before .before .before) .stands)
+    (λ c. omega (arith, c .before .before .short-run2 .ensures .fewer, c .before .before .before .before .before .before .before .before .before .before .before .before .before .before .if2 .taken))
+    loop-again
+    (λ c κs. omega arith) (λ c. search needs) (λ c. search needs)
+    (λ c. so-far (c .before .before .before .before .before) .long)
+    returns-3 put-requires-2
+    (λ c κs. search needs)
+    same-length-3 returns-4)
