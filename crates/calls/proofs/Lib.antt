@@ -1,5 +1,4 @@
-mod Arrays
+pub mod Arrays
 mod Calls
-mod Entries
 pub mod Facts
-mod Steps
+pub mod Steps

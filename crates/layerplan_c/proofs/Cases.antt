@@ -4,9 +4,9 @@ use mathlib.Core.List.{List}
 use mathlib.Core.Path.{_≡_, refl}
 use Prim.Native.Nat.{ℕ}
 use Rattle.calls.specs.Calls.{returnedOf, planOf, sizeOf}
-use Rattle.calls.specs.declared.Planned.{Planned}
-use Rattle.calls.specs.declared.Planned.the-variants.{Refused}
-use Rattle.calls.specs.declared.Printed.{Printed}
+use Rattle.planning.specs.declared.Planned.{Planned}
+use Rattle.planning.specs.declared.Planned.the-variants.{Refused}
+use Rattle.planning.specs.declared.Printed.{Printed}
 use Rattle.model.specs.Calls.{Buffers, planLent, planCall, printLent, printCall}
 use Rattle.model.specs.Demand3.{Met}
 use Rattle.model.specs.Job.{Job}

@@ -2,8 +2,8 @@
 -- Assumes nothing.
 use Prim.Native.Nat.{ℕ}
 use Rattle.calls.specs.Calls.{returnedOf, planOf, sizeOf}
-use Rattle.calls.specs.declared.Planned.{Planned}
-use Rattle.calls.specs.declared.Printed.{Printed}
+use Rattle.planning.specs.declared.Planned.{Planned}
+use Rattle.planning.specs.declared.Printed.{Printed}
 use Rattle.model.specs.Calls.{Returned}
 use Rattle.layerplan_c.specs.declared.LayerplanResult.{LayerplanResult}
 

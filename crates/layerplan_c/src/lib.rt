@@ -1,16 +1,16 @@
 // Both calls under the names that C and Rust link: include/layerplan.h declares them. A slice is passed as pointer and length.
-use calls::Entry;
-use calls::Planned;
-use calls::Printed;
-use calls::Totals;
+use planning::Planned;
+use planning::Printed;
+use planning::Totals;
+use sort::Entry;
 use text::Refusal;
 ghost use mathlib.Core.Path.{_≡_};
 ghost use Rattle.calls.specs.Calls.{buffersOf, returnedOf};
-ghost use Rattle.calls.specs.declared.Planned.the-variants.{Plan, Refused};
 ghost use Rattle.model.specs.Calls.{planLent, planCall, printLent, printCall};
 ghost use Rattle.model.specs.Demand3.{Met};
 ghost use Rattle.model.specs.Job.{Job};
 ghost use Rattle.model.specs.Read.{Place, found, read};
+ghost use Rattle.planning.specs.declared.Planned.the-variants.{Plan, Refused};
 ghost use Rattle.layerplan_c.specs.Results.{toldBy, resultWith, planResult, printResult};
 
 // "number, line, total vias, total and maximum", and the length of the printed text.

@@ -1,6 +1,8 @@
 -- The net table: six numbers for each net, counted from 0.
 -- Assumes nothing.
-use Prim.Native.Nat.{ℕ, _+_, _*_}
+use mathlib.Core.List.{List}
+use Prim.Native.Nat.{ℕ, _+_, _*_, _/_, _%_}
+use lib.ListN.{getD, set}
 
 -- the place in the text after `pins=`, and after `edges=`
 abbrev pub pinsColumn : ℕ → ℕ
@@ -12,6 +14,10 @@ edgesColumn i = 6 * i + 1
 -- the entries of the `pins` line
 abbrev pub entriesColumn : ℕ → ℕ
 entriesColumn i = 6 * i + 2
+
+-- the net whose turn is i, once the order list stands: it takes the place of the entries
+abbrev pub turnColumn : ℕ → ℕ
+turnColumn i = 6 * i + 2
 
 -- the place of the net's first layer in the answer list, and the entries of its `edges` line
 abbrev pub firstColumn : ℕ → ℕ
@@ -27,3 +33,10 @@ viasColumn i = 6 * i + 5
 -- for 4,096 nets
 abbrev pub tableSize : ℕ
 tableSize = 24_576
+
+-- the score of net i, in halves, from when it is known to when the order list stands
+abbrev pub scoreIn : List ℕ → ℕ → ℕ
+scoreIn table i = getD table (entriesColumn i) 0 + 4_294_967_296 * getD table (viasColumn i) 0
+
+abbrev pub scorePut : List ℕ → ℕ → ℕ → List ℕ
+scorePut table i v = set (set table (entriesColumn i) (v % 4_294_967_296)) (viasColumn i) (v / 4_294_967_296)

@@ -4,7 +4,8 @@ ghost use Prim.Native.Nat.{ℕ, _+_, _-_, _*_, _<_, _≤_};
 ghost use Rattle.model.specs.Read.{workingNeed};
 ghost use Rattle.layout.specs.Shapes.{stackOf, shapeOf, Shaped, wayOf, WayRoom};
 ghost use Rattle.layout.specs.Areas.{loadsAt, demandAt, flatAt, tilesAt, linksAt, chosenAt, listAt, stopsAt, aboveAt, engineAt};
-ghost use Rattle.layout.specs.Table.{pinsColumn, edgesColumn, entriesColumn, firstColumn, countColumn, viasColumn};
+ghost use lib.ListN.{length};
+ghost use Rattle.layout.specs.Table.{pinsColumn, edgesColumn, entriesColumn, turnColumn, firstColumn, countColumn, viasColumn, tableSize, scoreIn, scorePut};
 
 // K layers. "Limits belong to the stack".
 pub struct Stack {
@@ -248,6 +249,15 @@ pub fn count_column(i: usize) -> usize
     6 * i + 4
 }
 
+// The net whose turn is i, once the order list stands: it takes the place of the entries of the `pins` line.
+pub fn turn_column(i: usize) -> usize
+    requires { ⌜ i < 4096 ⌝ }
+    ensures { λ r. ⌜ r ≡ turnColumn i ⌝ }
+    ensures { λ r. ⌜ r < 24576 ⌝ }
+{
+    6 * i + 2
+}
+
 // The vias of the net, once it is placed.
 pub fn vias_column(i: usize) -> usize
     requires { ⌜ i < 4096 ⌝ }
@@ -255,4 +265,29 @@ pub fn vias_column(i: usize) -> usize
     ensures { λ r. ⌜ r < 24576 ⌝ }
 {
     6 * i + 5
+}
+
+// ---- the score of a net, from when it is known to when the order list stands: its halves take the places of the entries of the `pins` line and of the vias
+
+fn wide(x: u32) -> u64
+    ensures { λ r. ⌜ (r ≡ x) × (r < 4294967296) ⌝ }
+{
+    x as u64
+}
+
+pub fn score_in(table: &[u32], i: usize) -> u64
+    requires { ⌜ (i < 4096) × (tableSize ≤ length (now table)) ⌝ }
+    ensures { λ r. ⌜ r ≡ scoreIn (now (table .entry)) i ⌝ }
+{
+    let low = wide(table[entries_column(i)]);
+    let high = wide(table[vias_column(i)]);
+    low + 4294967296 * high
+}
+
+pub fn put_score(table: &mut [u32], i: usize, v: u64)
+    requires { ⌜ (i < 4096) × (tableSize ≤ length (now table)) ⌝ }
+    ensures { λ _. ⌜ now (table .exit) ≡ scorePut (now (table .entry)) i v ⌝ }
+{
+    table[entries_column(i)] = (v % 4294967296) as u32;
+    table[vias_column(i)] = (v / 4294967296) as u32;
 }

@@ -12,7 +12,7 @@ use Rattle.model.specs.Job.{Job, netCount}
 use Rattle.model.specs.Overflow.{flatDemand}
 use Rattle.net.specs.AtHand.{tilesOf}
 use Rattle.net.specs.SoFar.{Capacities}
-use Rattle.net.specs.Table.{Table}
+use Rattle.net.specs.Table.{Table, PinCounts}
 
 pub record Checked (s : List ℕ) (g : Shape) (j : Job) (w table : List ℕ) : Type 0 where
   pub shape : g ≡ shapeOf (j .width) (j .height) (j .layers)
@@ -26,3 +26,4 @@ pub record Checked (s : List ℕ) (g : Shape) (j : Job) (w table : List ℕ) : T
   -- the marks are those of the N nets read
   pub marks : Older (suc (netCount j)) (tilesOf g w)
   pub rows : Table s j table
+  pub pin-counts : PinCounts j table

@@ -3,13 +3,17 @@
 use mathlib.Core.Bool.{true}
 use mathlib.Core.List.{List, map}
 use mathlib.Core.Option.{some}
-use mathlib.Core.Path.{_≡_}
+use mathlib.Core.Logic.{_≢_}
+use mathlib.Core.Path.{_≡_, sym, subst, _∙_}
 use Prim.Native.Nat.{ℕ, suc, _≤_, _<_}
-use lib.ListN.{length, drop, getD}
-use Rattle.layout.specs.Table.{pinsColumn, edgesColumn, entriesColumn, firstColumn, countColumn, tableSize}
+use native.Mathlib.Omega.{arith}
+use lib.ListN.{length, drop, getD, set, length-set}
+use lib.Seq.{getD-set-other}
+use Rattle.layout.specs.Table.{pinsColumn, edgesColumn, entriesColumn, turnColumn, firstColumn, countColumn, viasColumn, tableSize}
 use Rattle.model.specs.Job.{Net, Job, netCount, netOf, netEdges}
 use Rattle.model.specs.Lists.{all}
 use Rattle.model.specs.Read.{Triple, pinInside, pinAt, edgeInside, edgeAt}
+use Rattle.model.specs.Score.{order}
 use Rattle.model.specs.Text.{cutLine}
 use Rattle.scan.specs.Pins.{pinsOf}
 use Rattle.scan.specs.Ways.{edgesCut}
@@ -31,14 +35,50 @@ pub record EdgesAt (s : List ℕ) (W H p : ℕ) (n : Net) : Type 0 where
   pub inside : all (edgeInside W H) entries ≡ true
   pub are : map (edgeAt W H) entries ≡ n .edges
 
--- the line of net i, counted from 0
+-- the row of net i, counted from 0
 pub record Row (s : List ℕ) (j : Job) (table : List ℕ) (i : ℕ) : Type 0 where
   pub pins : PinsAt s (j .width) (j .height) (j .layers) (getD table (pinsColumn i) 0) (netOf j (suc i))
   pub edges : EdgesAt s (j .width) (j .height) (getD table (edgesColumn i) 0) (netOf j (suc i))
-  pub pin-count : getD table (entriesColumn i) 0 ≡ length (netOf j (suc i) .pins)
   pub edge-count : getD table (countColumn i) 0 ≡ length (netOf j (suc i) .edges)
   pub first : getD table (firstColumn i) 0 ≡ offset (netEdges j) i
 
 pub record Table (s : List ℕ) (j : Job) (table : List ℕ) : Type 0 where
   pub long : tableSize ≤ length table
   pub rows : (i : ℕ) → i < netCount j → Row s j table i
+
+-- the entries of each net's `pins` line
+abbrev pub PinCounts : Job → List ℕ → Type 0
+PinCounts j table = (i : ℕ) → i < netCount j → getD table (entriesColumn i) 0 ≡ length (netOf j (suc i) .pins)
+
+-- the net whose turn is k, once the order list stands
+abbrev pub TurnsIn : Job → List ℕ → Type 0
+TurnsIn j table = (k : ℕ) → k < netCount j → getD table (turnColumn k) 0 ≡ getD (order j) k (record { net = 0; score = 0 }) .net
+
+-- ---- a number is written beside what the rows say
+
+-- the place q is in none of their columns
+pub record Beside (q : ℕ) : Type 0 where
+  pub pins : (i : ℕ) → pinsColumn i ≢ q
+  pub edges : (i : ℕ) → edgesColumn i ≢ q
+  pub first : (i : ℕ) → firstColumn i ≢ q
+  pub count : (i : ℕ) → countColumn i ≢ q
+
+pub table-set : (s : List ℕ) (j : Job) (table : List ℕ) (q v : ℕ) → Beside q → Table s j table → Table s j (set table q v)
+table-set s j table q v b t = record { long = omega (arith, t .long, length-set table q v); rows = λ k h. row k (t .rows k h) }
+  where
+    kept : (p : ℕ) → p ≢ q → getD (set table q v) p 0 ≡ getD table p 0
+    kept p h = getD-set-other table q p v 0 h
+
+    row : (k : ℕ) → Row s j table k → Row s j (set table q v) k
+    row k r = record {
+      pins = subst (λ (p : ℕ). PinsAt s (j .width) (j .height) (j .layers) p (netOf j (suc k))) (sym (kept (pinsColumn k) (b .pins k))) (r .pins);
+      edges = subst (λ (p : ℕ). EdgesAt s (j .width) (j .height) p (netOf j (suc k))) (sym (kept (edgesColumn k) (b .edges k))) (r .edges);
+      edge-count = kept (countColumn k) (b .count k) ∙ r .edge-count;
+      first = kept (firstColumn k) (b .first k) ∙ r .first;
+    }
+
+pub beside-entries : (i : ℕ) → Beside (entriesColumn i)
+beside-entries i = record { pins = λ k e. omega arith; edges = λ k e. omega arith; first = λ k e. omega arith; count = λ k e. omega arith }
+
+pub beside-vias : (i : ℕ) → Beside (viasColumn i)
+beside-vias i = record { pins = λ k e. omega arith; edges = λ k e. omega arith; first = λ k e. omega arith; count = λ k e. omega arith }

@@ -1,7 +1,4 @@
 mod Sums
 mod EdgeTurns
 mod Scores
-mod Fronts
-mod Filling
-mod Unpacking
-mod Listed
+mod Scoring

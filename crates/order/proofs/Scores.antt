@@ -2,7 +2,7 @@
 -- Assumes nothing.
 use mathlib.Core.List.{List}
 use mathlib.Core.Path.{_≡_, _∙_}
-use Prim.Native.Nat.{ℕ, suc, _+_, _^_, _≤_, _<_}
+use Prim.Native.Nat.{ℕ, suc, _+_, _≤_, _<_}
 use native.Mathlib.Nat.{mul-le-mul}
 use native.Mathlib.Omega.{arith}
 use lib.ListN.{length, getD}
@@ -15,7 +15,6 @@ use Rattle.model.specs.Score.{lengthTerm, pinTerm, densityTerm, score}
 use Rattle.net.specs.Left.{EdgesThere, edges-there}
 use Rattle.net.specs.Table.{EdgesAt, Row}
 use Rattle.score.specs.declared.Density.{Density}
-use Rattle.sort.specs.Placing.{key-fits}
 use Rattle.theory.specs.links.Engine.{edges-few}
 use Rattle.theory.specs.links.Limits.{demands-small}
 use Rattle.theory.specs.links.Nets.{NetOk}
@@ -48,11 +47,11 @@ module _ (s : List ℕ) (g : Shape) (a : Weights) (w table : List ℕ) (lent : L
   weights-small =
       (omega (arith, ready .alpha, ready .accepted .alpha), omega (arith, ready .beta, ready .accepted .beta), omega (arith, ready .gamma, ready .accepted .gamma))
 
-  pub pins-small : (p : ℕ) → p ≡ getD table (entriesColumn i) 0 → p ≤ 1_048_576
-  pins-small p e =
+  pub pins-small : (p : ℕ) → p ≡ getD table (entriesColumn i) 0 → getD table (entriesColumn i) 0 ≡ length (netOf j (suc i) .pins) → p ≤ 1_048_576
+  pins-small p e are =
       omega (
         arith,
-        row .pin-count,
+        are,
         pins-few (j .width) (j .height) (j .layers) net (ready .accepted .layers .1) ok,
         tiles-few lent j (ready .accepted),
       )
@@ -62,11 +61,8 @@ module _ (s : List ℕ) (g : Shape) (a : Weights) (w table : List ℕ) (lent : L
       let few : length (net .edges) ≤ 4096 = omega (arith, edges-few j (ready .accepted .width .0) (ready .accepted .height .0) net ok, tiles-few lent j (ready .accepted)) in
       omega (arith, d .most, demands-small lent j (ready .accepted) (net .edges), mul-le-mul few (ready .accepted .net-count))
 
-  pub score-is : (e p : ℕ) (x : Density) → e ≡ getD table (countColumn i) 0 → p ≡ getD table (entriesColumn i) 0 → Weighed (a .gamma) j (netOf j (suc i)) x
+  pub score-is : (e p : ℕ) (x : Density) → e ≡ getD table (countColumn i) 0 → p ≡ getD table (entriesColumn i) 0 → getD table (entriesColumn i) 0 ≡ length (netOf j (suc i) .pins) → Weighed (a .gamma) j (netOf j (suc i)) x
       → (r : ℕ) → r ≡ lengthTerm (a .alpha) e + pinTerm (a .beta) p + densityTerm (a .gamma) (x .demand) (x .capacity) → r ≡ score j (netOf j (suc i))
   unfolding score
-  score-is e p x e-is p-is d r r-is =
-      r-is ∙ rw (d .term, ready .alpha, ready .beta, ready .gamma, e-is ∙ row .edge-count, p-is ∙ row .pin-count)
-
-  pub score-fits : (v : ℕ) → v ≡ score j (netOf j (suc i)) → (v < 2 ^ 52) × (i < 4096)
-  score-fits v e = let f = key-fits lent j (ready .accepted) i h in (omega (arith, e, f .0), f .1)
+  score-is e p x e-is p-is are d r r-is =
+      r-is ∙ rw (d .term, ready .alpha, ready .beta, ready .gamma, e-is ∙ row .edge-count, p-is ∙ are)

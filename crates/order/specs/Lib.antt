@@ -1,3 +1,2 @@
 pub mod Density
 pub mod Ready
-pub mod Ordered

@@ -2,15 +2,18 @@
 -- Assumes nothing.
 use mathlib.Core.List.{List}
 use mathlib.Core.Path.{_≡_, ap, _∙_}
-use Prim.Native.Nat.{ℕ, _+_, _<_}
+use Prim.Native.Nat.{ℕ, suc, _+_, _<_}
 use native.Mathlib.Omega.{arith}
+use lib.ListN.{length, getD}
 use Rattle.layout.specs.Areas.{demandAt, flatAt}
 use Rattle.layout.specs.Parts.{Outside}
+use Rattle.layout.specs.Table.{entriesColumn, scoreIn}
 use Rattle.layout.specs.declared.Shape.{Shape}
-use Rattle.model.specs.Job.{Job, netCount}
+use Rattle.model.specs.Job.{Job, netCount, netOf}
 use Rattle.model.specs.Read.{Lent}
+use Rattle.model.specs.Score.{score}
 use Rattle.net.specs.Checked.{Checked}
-use Rattle.net.specs.Table.{Table}
+use Rattle.net.specs.Table.{Table, PinCounts}
 use Rattle.theory.specs.links.Reading.{Accepted}
 use Rattle.tracks.specs.FlatPlan.{FlatDemands, FlatCapacities}
 use Rattle.order.specs.declared.Weights.{Weights}
@@ -34,6 +37,7 @@ pub record SomeJob (s : List ℕ) (g : Shape) (a : Weights) (w table : List ℕ)
   pub lent : Lent
   pub job : Job
   pub ready : Ready s g a w table lent job
+  pub pins : PinCounts job table
   pub count : n ≡ netCount job
 
 -- so it is with some job that has a net in place i, from 0
@@ -42,6 +46,12 @@ pub record SomeNet (s : List ℕ) (g : Shape) (a : Weights) (w table : List ℕ)
   pub job : Job
   pub ready : Ready s g a w table lent job
   pub there : i < netCount job
+  pub pins : getD table (entriesColumn i) 0 ≡ length (netOf job (suc i) .pins)
+
+-- the rows of the nets, and their scores
+pub record Scored (s : List ℕ) (j : Job) (table : List ℕ) : Type 0 where
+  pub rows : Table s j table
+  pub scores : (i : ℕ) → i < netCount j → scoreIn table i ≡ score j (netOf j (suc i))
 
 -- so it is with a job whose text is checked, once its flat capacities are in their place
 pub ready-checked : (s : List ℕ) (g : Shape) (a : Weights) (w w′ table : List ℕ) (lent : Lent) (j : Job) → Accepted lent j → Checked s g j w table

@@ -1,27 +1,23 @@
-// The scores of all nets of an accepted job, and the order list in placing order.
+// The scores of all nets of an accepted job, each in the net's row of the net table.
 use layout::Shape;
 use score::Density;
 ghost use mathlib.Core.Bool.{true};
-ghost use mathlib.Core.List.{map};
 ghost use mathlib.Core.Path.{_≡_};
 ghost use Prim.Native.Nat.{suc, _^_, _<_, _≤_};
-ghost use lib.ListN.{length, getD, take};
+ghost use lib.ListN.{length, getD};
 ghost use Rattle.layout.specs.Areas.{tilesAt};
 ghost use Rattle.layout.specs.Shapes.{Shaped};
-ghost use Rattle.model.specs.Calls.{overwrite};
+ghost use Rattle.layout.specs.Table.{entriesColumn};
 ghost use Rattle.model.specs.Job.{Net, Job, netCount, netOf};
 ghost use Rattle.model.specs.Read.{Lent, edgeInside};
 ghost use Rattle.model.specs.Score as scores;
 ghost use Rattle.net.specs.Left.{EdgesThere};
-ghost use Rattle.net.specs.Table.{EdgesAt};
+ghost use Rattle.net.specs.Table.{EdgesAt, PinCounts};
 ghost use Rattle.scan.specs.Pins.{triple};
-ghost use Rattle.sort.specs.Keys.{keyOf, keyScore, keyNet};
-ghost use Rattle.sort.specs.Placing.{keysOf};
 ghost use Rattle.tracks.specs.FlatPlan.{FlatDemands, FlatCapacities};
 ghost use Rattle.ways.specs.Entry.{edgeOf};
 ghost use Rattle.order.specs.Density.{Added, DensityOf, Weighed};
-ghost use Rattle.order.specs.Ordered.{Ordered};
-ghost use Rattle.order.specs.Ready.{Ready, SomeJob, SomeNet};
+ghost use Rattle.order.specs.Ready.{Ready, SomeJob, SomeNet, Scored};
 
 // alpha, beta and gamma of a job.
 pub struct Weights {
@@ -132,7 +128,7 @@ fn net_score(s: &[u8], w: &[u32], g: Shape, a: Weights, table: &[u32], i: usize)
     requires { ⌜ Shaped g ⌝ }
     requires { ⌜ tilesAt g ≤ length (now w) ⌝ }
     requires { ⌜ SomeNet (now s) g a (now w) (now table) i ⌝ }
-    ensures { λ r. ⌜ ((lent : Lent) (j : Job) → Ready (now (s .entry)) g a (now (w .entry)) (now (table .entry)) lent j → i < netCount j → r ≡ scores.score j (netOf j (suc i))) ⌝ }
+    ensures { λ r. ⌜ ((lent : Lent) (j : Job) → Ready (now (s .entry)) g a (now (w .entry)) (now (table .entry)) lent j → i < netCount j → getD (now (table .entry)) (entriesColumn i) 0 ≡ length (netOf j (suc i) .pins) → r ≡ scores.score j (netOf j (suc i))) ⌝ }
 {
     let at = layout::index(table[layout::edges_column(i)]);
     let edges = wide(table[layout::count_column(i)]);
@@ -141,62 +137,15 @@ fn net_score(s: &[u8], w: &[u32], g: Shape, a: Weights, table: &[u32], i: usize)
     score::score(a.alpha, a.beta, a.gamma, edges, pins, x)
 }
 
-// The key of net i, counted from 0.
-fn net_key(s: &[u8], w: &[u32], g: Shape, a: Weights, table: &[u32], i: usize) -> u64
+// The scores of the n nets, each in the net's row of the table.
+pub fn score_nets(s: &[u8], w: &[u32], g: Shape, a: Weights, table: &mut [u32], n: usize)
     requires { ⌜ Shaped g ⌝ }
     requires { ⌜ tilesAt g ≤ length (now w) ⌝ }
-    requires { ⌜ SomeNet (now s) g a (now w) (now table) i ⌝ }
-    ensures { λ r. ⌜ ((lent : Lent) (j : Job) → Ready (now (s .entry)) g a (now (w .entry)) (now (table .entry)) lent j → i < netCount j → r ≡ keyOf (scores.score j (netOf j (suc i))) i) ⌝ }
-{
-    let v = net_score(s, w, g, a, table, i);
-    sort::key_of(v, i)
-}
-
-// The keys of the n nets, in job order.
-fn fill_keys(s: &[u8], w: &[u32], g: Shape, a: Weights, table: &[u32], keys: &mut [u64], n: usize)
-    requires { ⌜ Shaped g ⌝ }
-    requires { ⌜ (tilesAt g ≤ length (now w)) × (n ≤ length (now keys)) ⌝ }
     requires { ⌜ SomeJob (now s) g a (now w) (now table) n ⌝ }
-    ensures { λ _. ⌜ ((lent : Lent) (j : Job) → Ready (now (s .entry)) g a (now (w .entry)) (now (table .entry)) lent j → n ≡ netCount j → now (keys .exit) ≡ overwrite (keysOf j) (now (keys .entry))) ⌝ }
+    ensures { λ _. ⌜ ((lent : Lent) (j : Job) → Ready (now (s .entry)) g a (now (w .entry)) (now (table .entry)) lent j → PinCounts j (now (table .entry)) → n ≡ netCount j → Scored (now (s .entry)) j (now (table .exit))) ⌝ }
 {
     for i in 0..n {
-        let key = net_key(s, w, g, a, table, i);
-        keys[i] = key;
+        let v = net_score(s, w, g, a, table, i);
+        layout::put_score(table, i, v);
     }
-}
-
-// Of the n keys in `scores`, the net numbers and the scores that they hold.
-fn unpack(nets: &mut [u32], scores: &mut [u64], n: usize)
-    requires { ⌜ (n ≤ length (now nets)) × (n ≤ length (now scores)) ⌝ }
-    ensures { λ _. ⌜ now (nets .exit) ≡ overwrite (map keyNet (take n (now (scores .entry)))) (now (nets .entry)) ⌝ }
-    ensures { λ _. ⌜ now (scores .exit) ≡ overwrite (map keyScore (take n (now (scores .entry)))) (now (scores .entry)) ⌝ }
-{
-    for k in 0..n {
-        let key = scores[k];
-        let net = sort::net_of(key);
-        let score = sort::score_of(key);
-        nets[k] = net;
-        scores[k] = score;
-    }
-}
-
-// The order list of a job of n nets: the net numbers and the scores in placing order. The keys are made and sorted in `scores`.
-pub fn place_order(
-    s: &[u8],
-    w: &[u32],
-    g: Shape,
-    a: Weights,
-    table: &[u32],
-    nets: &mut [u32],
-    scores: &mut [u64],
-    n: usize,
-)
-    requires { ⌜ Shaped g ⌝ }
-    requires { ⌜ (tilesAt g ≤ length (now w)) × (n ≤ length (now nets)) × (n ≤ length (now scores)) ⌝ }
-    requires { ⌜ SomeJob (now s) g a (now w) (now table) n ⌝ }
-    ensures { λ _. ⌜ ((lent : Lent) (j : Job) → Ready (now (s .entry)) g a (now (w .entry)) (now (table .entry)) lent j → n ≡ netCount j → Ordered j (now (nets .entry)) (now (nets .exit)) (now (scores .entry)) (now (scores .exit))) ⌝ }
-{
-    fill_keys(s, w, g, a, table, scores, n);
-    sort::sort(scores, n);
-    unpack(nets, scores, n);
 }

@@ -7,13 +7,13 @@ use Prim.Native.Nat.{ℕ, suc, _+_, _-_, _≤_, _<_}
 use native.Mathlib.Decide.{ℕ-discrete}
 use native.Mathlib.Numerals.{add-one}
 use native.Mathlib.Omega.{arith}
-use lib.ListN.{length, drop, getD, set, replicate, length-map, length-set, drop-of-length-le, List·getD-map}
-use lib.Seq.{drop-cons, ext-getD, getD-take, getD-set-same, getD-set-other}
-use Rattle.layout.specs.Table.{pinsColumn, edgesColumn, entriesColumn, firstColumn, countColumn, viasColumn}
+use lib.ListN.{length, drop, getD, set, replicate, length-map, drop-of-length-le, List·getD-map}
+use lib.Seq.{drop-cons, ext-getD, getD-set-same, getD-set-other}
+use Rattle.layout.specs.Table.{turnColumn, viasColumn}
 use Rattle.layout.specs.declared.Shape.{Shape}
 use Rattle.marks.specs.Marks.{Older}
 use Rattle.model.specs.Demand3.{turns, choiceVias, planIn}
-use Rattle.model.specs.Job.{Net, Job, netCount, netOf, netEdges, entryCount}
+use Rattle.model.specs.Job.{Net, Job, netCount, netEdges, entryCount}
 use Rattle.model.specs.Lists.{sum, occurs, In}
 use Rattle.model.specs.Plan.{planFrom, plan, totalVias}
 use Rattle.model.specs.Read.{Lent}
@@ -21,7 +21,7 @@ use Rattle.model.specs.Score.{Entry, order}
 use Rattle.model.specs.Vias.{vias}
 use Rattle.net.specs.AtHand.{tilesOf}
 use Rattle.net.specs.SoFar.{SoFar}
-use Rattle.net.specs.Table.{PinsAt, EdgesAt, Row, Table}
+use Rattle.net.specs.Table.{Table, TurnsIn, table-set, beside-vias}
 use Rattle.theory.specs.congestion.Base.{in-upFrom}
 use Rattle.theory.specs.congestion.Sums.{in-head, same-cases}
 use Rattle.theory.specs.links.Meets.{order-long}
@@ -41,23 +41,6 @@ noEntry = record { net = 0; score = 0 }
 abbrev viasIn : Job → ℕ → ℕ
 viasIn j i = choiceVias j i (getD (plan j) i [])
 
--- ---- a row is kept when the vias of a net are stored
-
-rows-kept : (s : List ℕ) (j : Job) (table : List ℕ) (i v : ℕ) → Table s j table → Table s j (set table (viasColumn i) v)
-rows-kept s j table i v t = record { long = omega (arith, t .long, length-set table (viasColumn i) v); rows = λ k h. row k (t .rows k h) }
-  where
-    kept : (p : ℕ) → (p ≡ viasColumn i → ⊥) → getD (set table (viasColumn i) v) p 0 ≡ getD table p 0
-    kept p h = getD-set-other table (viasColumn i) p v 0 h
-
-    row : (k : ℕ) → Row s j table k → Row s j (set table (viasColumn i) v) k
-    row k r = record {
-      pins = subst (λ (p : ℕ). PinsAt s (j .width) (j .height) (j .layers) p (netOf j (suc k))) (sym (kept (pinsColumn k) (λ e. omega arith))) (r .pins);
-      edges = subst (λ (p : ℕ). EdgesAt s (j .width) (j .height) p (netOf j (suc k))) (sym (kept (edgesColumn k) (λ e. omega arith))) (r .edges);
-      pin-count = kept (entriesColumn k) (λ e. omega arith) ∙ r .pin-count;
-      edge-count = kept (countColumn k) (λ e. omega arith) ∙ r .edge-count;
-      first = kept (firstColumn k) (λ e. omega arith) ∙ r .first;
-    }
-
 -- ---- between two turns
 
 -- k nets have had their turns; v is the sum of their vias, and answer₀ the answer list before the first
@@ -68,12 +51,13 @@ pub record Mid (s : List ℕ) (g : Shape) (n : ℕ) (w table answer₀ answer : 
   pub so-far : SoFar g j so-planned w
   pub older : Older (suc (n + k)) (tilesOf g w)
   pub rows : Table s j table
+  pub turns-are : TurnsIn j table
   pub written : (i : ℕ) → i < netCount j → occurs i (turns (drop k (order j))) ≡ 0 → getD (planIn j answer) i [] ≡ getD so-planned i []
   pub vias-stored : (i : ℕ) → i < netCount j → occurs i (turns (drop k (order j))) ≡ 0 → getD table (viasColumn i) 0 ≡ choiceVias j i (getD so-planned i [])
   pub beyond : drop (entryCount j) answer ≡ drop (entryCount j) answer₀
   pub vias-left : v + sum (viasIn j) (turns (drop k (order j))) ≡ totalVias j (plan j)
 
-module _ (s : List ℕ) (g : Shape) (n m : ℕ) (w₀ table₀ nets : List ℕ) (size : ℕ) (lent : Lent) (j : Job) (start : Start s g n m w₀ table₀ nets size lent j) where
+module _ (s : List ℕ) (g : Shape) (n m : ℕ) (w₀ table₀ : List ℕ) (size : ℕ) (lent : Lent) (j : Job) (start : Start s g n m w₀ table₀ size lent j) where
   abbrev acc : Accepted lent j
   acc = start .accepted
 
@@ -92,6 +76,7 @@ module _ (s : List ℕ) (g : Shape) (n m : ℕ) (w₀ table₀ nets : List ℕ) 
     so-far = start .so-far;
     older = λ t. omega (arith, start .older t);
     rows = start .rows;
+    turns-are = start .turns-are;
     written = λ i h z. absurd (here i h z);
     vias-stored = λ i h z. absurd (here i h z);
     beyond = refl;
@@ -113,6 +98,7 @@ module _ (s : List ℕ) (g : Shape) (n m : ℕ) (w₀ table₀ nets : List ℕ) 
         vias = λ i b. mid .vias-stored i b (over i) ∙ ap (λ (ys : List (List ℕ)). choiceVias j i (getD ys i [])) whole;
         plan = all-written ∙ whole;
       };
+      turns-are = mid .turns-are;
       beyond = mid .beyond;
       vias-are = omega (arith, mid .vias-left, ap (λ (es : List Entry). sum (viasIn j) (turns es)) none);
     }
@@ -156,11 +142,8 @@ module _ (s : List ℕ) (g : Shape) (n m : ℕ) (w₀ table₀ nets : List ℕ) 
       }
 
       -- its number, as the order list has it
-      net-told : getD nets k 0 ≡ getD (order j) k noEntry .net
-      net-told =
-          sym (getD-take n nets k 0 less)
-          ∙ ap (λ (l : List ℕ). getD l k 0) (start .turns-are)
-          ∙ List·getD-map (λ e. e .net) (order j) k noEntry
+      net-told : getD table (turnColumn k) 0 ≡ getD (order j) k noEntry .net
+      net-told = mid .turns-are k (omega (arith, start .count))
 
       in-turn : In (getD (order j) k noEntry .net - 1) (turns (drop k (order j)))
       in-turn = subst (λ (es : List Entry). In (t .net - 1) (turns es)) (sym next-is) (in-head (t .net - 1) (turns rest))
@@ -168,27 +151,27 @@ module _ (s : List ℕ) (g : Shape) (n m : ℕ) (w₀ table₀ nets : List ℕ) 
       net-inside : getD (order j) k noEntry .net - 1 < netCount j
       net-inside = mid .midway .inside (t .net - 1) in-turn
 
-      pub net-number : getD nets k 0 - 1 < 4096
+      pub net-number : getD table (turnColumn k) 0 - 1 < 4096
       net-number = omega (arith, net-told, net-inside, acc .net-count)
 
       -- it is counted from 1
-      pub net-counted : 1 ≤ getD nets k 0
+      pub net-counted : 1 ≤ getD table (turnColumn k) 0
       net-counted =
           omega (
             arith,
             named,
-            in-upFrom (getD nets k 0) 1 (netCount j) .0 (omega (arith, nets-only j (order j) (order-is j) (getD nets k 0), among)),
+            in-upFrom (getD table (turnColumn k) 0) 1 (netCount j) .0 (omega (arith, nets-only j (order j) (order-is j) (getD table (turnColumn k) 0), among)),
           )
         where
-          named : getD nets k 0 ≡ getD (netsIn (order j)) k 0
-          named = sym (getD-take n nets k 0 less) ∙ ap (λ (l : List ℕ). getD l k 0) (start .turns-are)
+          named : getD table (turnColumn k) 0 ≡ getD (netsIn (order j)) k 0
+          named = net-told ∙ sym (List·getD-map (λ e. e .net) (order j) k noEntry)
 
-          among : In (getD nets k 0) (netsIn (order j))
+          among : In (getD table (turnColumn k) 0) (netsIn (order j))
           among =
               subst (λ (q : ℕ). In q (netsIn (order j))) (sym named)
               (stands (netsIn (order j)) k (omega (arith, length-map {B = ℕ} (order j) (λ e. e .net), nets-long, start .count)))
 
-      pub row-turn : (i stamp : ℕ) → i ≡ getD nets k 0 - 1 → stamp ≡ n + 1 + k → length answer ≡ size → RowTurn s g stamp m w table (length answer) i turn
+      pub row-turn : (i stamp : ℕ) → i ≡ getD table (turnColumn k) 0 - 1 → stamp ≡ n + 1 + k → length answer ≡ size → RowTurn s g stamp m w table (length answer) i turn
       row-turn i stamp i-is stamp-is long = record {
         grid = start .grid;
         so-far = mid .so-far;
@@ -199,7 +182,7 @@ module _ (s : List ℕ) (g : Shape) (n m : ℕ) (w₀ table₀ nets : List ℕ) 
         room = omega (arith, start .room);
       }
 
-      module _ (i stamp : ℕ) (i-is : i ≡ getD nets k 0 - 1) (stamp-is : stamp ≡ n + 1 + k) (w′ answer′ : List ℕ) (r : ℕ)
+      module _ (i stamp : ℕ) (i-is : i ≡ getD table (turnColumn k) 0 - 1) (stamp-is : stamp ≡ n + 1 + k) (w′ answer′ : List ℕ) (r : ℕ)
           (done : RowDone g stamp w′ answer answer′ i r turn) where
         abbrev y : List ℕ
         y = turnLayers turn
@@ -272,7 +255,8 @@ module _ (s : List ℕ) (g : Shape) (n m : ℕ) (w₀ table₀ nets : List ℕ) 
           ends = ends-next;
           so-far = done .so-far;
           older = λ q. omega (arith, done .older q);
-          rows = rows-kept s j table i r (mid .rows);
+          rows = table-set s j table (viasColumn i) r (beside-vias i) (mid .rows);
+          turns-are = λ x b. getD-set-other table (viasColumn i) (turnColumn x) r 0 (λ q. omega arith) ∙ mid .turns-are x b;
           written = written-next;
           vias-stored = vias-next;
           beyond = done .beyond ∙ mid .beyond;

@@ -1,9 +1,9 @@
 -- The nets of an accepted job in their turns: what is asked before the first, what one turn changes, and what stands after the last.
 -- Assumes nothing.
-use mathlib.Core.List.{List, [], map}
+use mathlib.Core.List.{List, []}
 use mathlib.Core.Path.{_≡_}
 use Prim.Native.Nat.{ℕ, suc, _-_, _≤_}
-use lib.ListN.{length, take, drop, getD, set, replicate}
+use lib.ListN.{length, drop, getD, set, replicate}
 use Rattle.layout.specs.Table.{pinsColumn, edgesColumn, firstColumn, countColumn}
 use Rattle.layout.specs.declared.Shape.{Shape}
 use Rattle.marks.specs.Marks.{Older}
@@ -12,10 +12,9 @@ use Rattle.model.specs.Job.{Job, netCount, entryCount}
 use Rattle.model.specs.Overflow.{limit}
 use Rattle.model.specs.Plan.{plan, totalVias}
 use Rattle.model.specs.Read.{Lent}
-use Rattle.model.specs.Score.{order}
 use Rattle.net.specs.AtHand.{tilesOf}
 use Rattle.net.specs.SoFar.{SoFar}
-use Rattle.net.specs.Table.{Table}
+use Rattle.net.specs.Table.{Table, TurnsIn}
 use Rattle.print.specs.Held.{Held}
 use Rattle.theory.specs.links.Reading.{Accepted}
 use Rattle.turn.specs.Turn.{Turn, OfJob, turnLimit, turnLayers, turnPlan, turnVias}
@@ -56,8 +55,8 @@ pub record RowDone (g : Shape) (stamp : ℕ) (w answer answer′ : List ℕ) (i 
 
 -- ---- all turns
 
--- before the first: no net is placed, the first n numbers of `nets` are the placing order, and the answer list has this length
-pub record Start (s : List ℕ) (g : Shape) (n m : ℕ) (w table nets : List ℕ) (size : ℕ) (lent : Lent) (j : Job) : Type 0 where
+-- before the first: no net is placed, the table has the placing order, and the answer list has this length
+pub record Start (s : List ℕ) (g : Shape) (n m : ℕ) (w table : List ℕ) (size : ℕ) (lent : Lent) (j : Job) : Type 0 where
   pub accepted : Accepted lent j
   pub grid : OfJob g j
   pub count : n ≡ netCount j
@@ -65,16 +64,17 @@ pub record Start (s : List ℕ) (g : Shape) (n m : ℕ) (w table nets : List ℕ
   pub so-far : SoFar g j (replicate (netCount j) []) w
   pub older : Older (suc n) (tilesOf g w)
   pub rows : Table s j table
-  pub turns-are : take n nets ≡ map (λ t. t .net) (order j)
+  pub turns-are : TurnsIn j table
   pub room : entryCount j ≤ size
 
-pub record StartSome (s : List ℕ) (g : Shape) (n m : ℕ) (w table nets : List ℕ) (size : ℕ) : Type 0 where
+pub record StartSome (s : List ℕ) (g : Shape) (n m : ℕ) (w table : List ℕ) (size : ℕ) : Type 0 where
   pub lent : Lent
   pub job : Job
-  pub start : Start s g n m w table nets size lent job
+  pub start : Start s g n m w table size lent job
 
 -- after the last: the table and the answer list hold the plan, nothing else of the answer list has changed, and r is the plan's vias
 pub record AllPlaced (j : Job) (answer answer′ table′ : List ℕ) (r : ℕ) : Type 0 where
   pub held : Held j (plan j) table′ answer′
+  pub turns-are : TurnsIn j table′
   pub beyond : drop (entryCount j) answer′ ≡ drop (entryCount j) answer
   pub vias-are : r ≡ totalVias j (plan j)

@@ -68,26 +68,25 @@ fn turn_of(
     vias
 }
 
-// All n nets, in the order of `nets`. `limit` is MO/K rounded up. The vias of the plan.
+// All n nets, in the order that the net table has. `limit` is MO/K rounded up. The vias of the plan.
 pub fn place_all(
     s: &[u8],
     w: &mut [u32],
     g: Shape,
     table: &mut [u32],
-    nets: &[u32],
     n: usize,
     limit: u32,
     answer: &mut [u8],
 ) -> u64
     requires { ⌜ Shaped g ⌝ }
-    requires { ⌜ (areasEnd g ≤ length (now w)) × (n ≤ 4096) × (n ≤ length (now nets)) × (tableSize ≤ length (now table)) ⌝ }
-    requires { ⌜ StartSome (now s) g n limit (now w) (now table) (now nets) (length (now answer)) ⌝ }
-    ensures { λ r. ⌜ ((lent : Lent) (j : Job) → Start (now (s .entry)) g n limit (now (w .entry)) (now (table .entry)) (now (nets .entry)) (length (now (answer .entry))) lent j → AllPlaced j (now (answer .entry)) (now (answer .exit)) (now (table .exit)) r) ⌝ }
+    requires { ⌜ (areasEnd g ≤ length (now w)) × (n ≤ 4096) × (tableSize ≤ length (now table)) ⌝ }
+    requires { ⌜ StartSome (now s) g n limit (now w) (now table) (length (now answer)) ⌝ }
+    ensures { λ r. ⌜ ((lent : Lent) (j : Job) → Start (now (s .entry)) g n limit (now (w .entry)) (now (table .entry)) (length (now (answer .entry))) lent j → AllPlaced j (now (answer .entry)) (now (answer .exit)) (now (table .exit)) r) ⌝ }
     ensures { λ _. ⌜ (length (now (w .exit)) ≡ length (now (w .entry))) × (length (now (table .exit)) ≡ length (now (table .entry))) × (length (now (answer .exit)) ≡ length (now (answer .entry))) ⌝ }
 {
     let mut vias = 0u64;
     for k in 0..n {
-        let i = layout::index(nets[k]) - 1;
+        let i = layout::index(table[layout::turn_column(k)]) - 1;
         let stamp = (n + 1 + k) as u32;
         vias += turn_of(s, w, g, table, i, stamp, limit, answer) as u64;
     }

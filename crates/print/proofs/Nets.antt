@@ -11,6 +11,10 @@ use Rattle.model.specs.Print.{printNet}
 use Rattle.print.specs.Texts.{rowText, netsText, nets-more, nets-done}
 use Rattle.print.specs.Wrote.{Wrote, Left, left-start, left-then, left-as, left-done}
 
+-- the number at a place of the table that is known by another name
+pub same-place : (table : List ℕ) (i k : ℕ) → i ≡ k → getD table i 0 ≡ getD table k 0
+same-place table i k e = rw e
+
 -- one net: its vias v, and its k layers from f on
 module _ (table answer : List ℕ) (i f k v : ℕ) (ef : f ≡ getD table (firstColumn i) 0) (ek : k ≡ getD table (countColumn i) 0) (ev : v ≡ getD table (viasColumn i) 0) where
   pub row-is : printNet (i + 1) v (take (f + k - f) (drop f answer)) ≡ rowText table answer i

@@ -39,6 +39,28 @@ tenth-long n h = ap length (decimal-parts n h) ∙ length-append (decimal (n / 1
 pub one-long : (n : ℕ) → n < 10 → length (decimal n) ≡ 1
 one-long n h = ap length (decimal-one n h)
 
+-- two, three and four digits, and four behind those of the ten-thousandth
+pub two-long : (n : ℕ) → 10 ≤ n → n < 100 → length (decimal n) ≡ 2
+two-long n h k = omega (arith, tenth-long n h, one-long (n / 10) (omega arith))
+
+pub three-long : (n : ℕ) → 100 ≤ n → n < 1000 → length (decimal n) ≡ 3
+three-long n h k = omega (arith, tenth-long n (omega arith), two-long (n / 10) (omega arith) (omega arith))
+
+pub four-long : (n : ℕ) → 1000 ≤ n → n < 10000 → length (decimal n) ≡ 4
+four-long n h k = omega (arith, tenth-long n (omega arith), three-long (n / 10) (omega arith) (omega arith))
+
+pub four-more : (n : ℕ) → 10000 ≤ n → length (decimal n) ≡ 4 + length (decimal (n / 10000))
+four-more n h =
+    let e : n / 10 / 10 / 10 / 10 ≡ n / 10000 = omega arith in
+    omega (
+      arith,
+      tenth-long n (omega arith),
+      tenth-long (n / 10) (omega arith),
+      tenth-long (n / 10 / 10) (omega arith),
+      tenth-long (n / 10 / 10 / 10) (omega arith),
+      ap (λ (k : ℕ). length (decimal k)) e,
+    )
+
 -- the last digit is stored first
 pub digit-more : (w : List ℕ) (a i n : ℕ) → 10 ≤ n → i ≡ a + length (decimal n) → sets w a (decimal n) ≡ sets (set w (i - 1) (48 + n % 10)) a (decimal (n / 10))
 digit-more w a i n h e =

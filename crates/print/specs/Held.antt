@@ -1,4 +1,4 @@
--- What the order, the net table and the answer list hold of a planned job; the text written from them is then the job's print.
+-- What the net table and the answer list hold of a planned job; the text written from them is then the job's print.
 -- Assumes nothing.
 use mathlib.Core.List.{List, [], _∷_, _++_, map, append-assoc}
 use mathlib.Core.Path.{_≡_, refl, sym, ap, ap₂, _∙_}
@@ -6,7 +6,7 @@ use Prim.Native.Nat.{ℕ, zero, suc, _+_, _-_, _≤_, _<_}
 use native.Mathlib.Omega.{arith}
 use lib.ListN.{length, take, drop, getD, length-map, List·getD-map}
 use lib.Seq.{sets}
-use Rattle.layout.specs.Table.{firstColumn, countColumn, viasColumn, tableSize}
+use Rattle.layout.specs.Table.{turnColumn, firstColumn, countColumn, viasColumn, tableSize}
 use Rattle.model.specs.Calls.{overwrite}
 use Rattle.model.specs.Demand3.{choiceVias, planIn}
 use Rattle.model.specs.Job.{Net, Job, netCount, netOf, netEdges, entryCount}
@@ -17,10 +17,11 @@ use Rattle.model.specs.Print.{printLine, printNets, printed}
 use Rattle.model.specs.Read.{Lent, printNeed}
 use Rattle.model.specs.Score.{Entry, order}
 use Rattle.model.specs.Vias.{vias}
+use Rattle.theory.specs.links.Meets.{order-long}
 use Rattle.theory.specs.links.Reading.{Accepted}
 use Rattle.theory.specs.links.Room.{print-room}
 use Rattle.theory.specs.links.Stretches.{offset, offset-room, cut-length, cut-at}
-use Rattle.print.specs.Texts.{viasOf, layersOf, netsText, totalsText, planText, Rows}
+use Rattle.print.specs.Texts.{viasOf, layersOf, netsText, turnsOf, totalsText, planText, Rows}
 use Rattle.print.specs.Wrote.{sets-overwrite}
 
 -- of each net the place and the number of its layers, and its vias; each net's layers stand in its stretch of the answer list
@@ -118,40 +119,59 @@ module _ (j : Job) (y : List (List ℕ)) (table answer : List ℕ) (held : Held 
   nets-printed = ap₂ (λ (vs : List ℕ) (ys : List (List ℕ)). printNets 1 vs ys) vias-are layers-are
 
   -- the whole print
-  pub plan-printed : (turns : List Entry) (nets : List ℕ) → take (netCount j) nets ≡ map (λ t. t .net) turns
-      → planText (netCount j) nets table answer (totalVias j y) (totalOverflow j y) (maxOverflow j y) ≡ printed j turns y
+  pub plan-printed : (turns : List Entry) → turnsOf table (netCount j) ≡ map (λ t. t .net) turns
+      → planText (netCount j) table answer (totalVias j y) (totalOverflow j y) (maxOverflow j y) ≡ printed j turns y
   unfolding printed
-  plan-printed turns nets e =
+  plan-printed turns e =
       ap₂ (λ (o n : List ℕ). printLine "order" o ++ n ++ totalsText (totalVias j y) (totalOverflow j y) (maxOverflow j y)) e nets-printed
       ∙ regroup (printLine "order" (map (λ t. t .net) turns) ++ printNets 1 (netVias j (j .nets) y) y)
       (printLine "total_vias" (totalVias j y ∷ [])) (printLine "total_overflow" (totalOverflow j y ∷ [])) (printLine "max_overflow" (maxOverflow j y ∷ []))
 
 -- ---- what is written for an accepted job
 
--- the numbers handed over: N, the nets in placing order, and what is told of the plan
-pub record Handed (j : Job) (n : ℕ) (nets : List ℕ) (vias total most : ℕ) : Type 0 where
+-- what stands past the end of the order
+abbrev pub noEntry : Entry
+noEntry = record { net = 0; score = 0 }
+
+-- what is handed over: N, the nets in placing order, which stand in the net table, and what is told of the plan
+pub record Handed (j : Job) (n : ℕ) (table : List ℕ) (vias total most : ℕ) : Type 0 where
   pub count : n ≡ netCount j
-  pub turns : take n nets ≡ map (λ t. t .net) (order j)
+  pub turns : (k : ℕ) → k < n → getD table (turnColumn k) 0 ≡ getD (order j) k noEntry .net
   pub vias-told : vias ≡ totalVias j (plan j)
   pub total-told : total ≡ totalOverflow j (plan j)
   pub most-told : most ≡ maxOverflow j (plan j)
 
-module _ (lent : Lent) (j : Job) (acc : Accepted lent j) (table answer : List ℕ) (held : Held j (plan j) table answer) (n : ℕ) (nets : List ℕ)
-    (vias total most : ℕ) (handed : Handed j n nets vias total most) where
+module _ (lent : Lent) (j : Job) (acc : Accepted lent j) (table answer : List ℕ) (held : Held j (plan j) table answer)
+    (n vias total most : ℕ) (handed : Handed j n table vias total most) where
   pub plan-rows : Rows n table answer
   plan-rows i h = held-rows j (plan j) table answer held (acc .net-count) i (omega (arith, handed .count))
 
+  -- the nets of the turns are those of the order
+  turns-are : turnsOf table (netCount j) ≡ map (λ t. t .net) (order j)
+  turns-are =
+      ap (turnsOf table) (sym long) ∙ listed (λ k. getD table (turnColumn k) 0) 0 (map (λ t. t .net) (order j)) 0 at
+    where
+      long : length (map (λ t. t .net) (order j)) ≡ netCount j
+      long = length-map {B = ℕ} (order j) (λ t. t .net) ∙ order-long lent j acc
+
+      at : (k : ℕ) → k < length (map (λ t. t .net) (order j)) → getD table (turnColumn (0 + k)) 0 ≡ getD (map (λ t. t .net) (order j)) k 0
+      at k b =
+          let e : 0 + k ≡ k = omega arith in
+          ap (λ (i : ℕ). getD table (turnColumn i) 0) e
+          ∙ handed .turns k (omega (arith, long, handed .count))
+          ∙ sym (List·getD-map {B = ℕ} (λ t. t .net) (order j) k noEntry)
+
   -- the text is the job's print
-  pub plan-text : planText n nets table answer vias total most ≡ printed j (order j) (plan j)
+  pub plan-text : planText n table answer vias total most ≡ printed j (order j) (plan j)
   plan-text =
-      ap₂ (λ (m v : ℕ). planText m nets table answer v total most) (handed .count) (handed .vias-told)
-      ∙ ap₂ (λ (t m : ℕ). planText (netCount j) nets table answer (totalVias j (plan j)) t m) (handed .total-told) (handed .most-told)
-      ∙ plan-printed j (plan j) table answer held (order j) nets (rw (handed .count) at (handed .turns))
+      ap₂ (λ (m v : ℕ). planText m table answer v total most) (handed .count) (handed .vias-told)
+      ∙ ap₂ (λ (t m : ℕ). planText (netCount j) table answer (totalVias j (plan j)) t m) (handed .total-told) (handed .most-told)
+      ∙ plan-printed j (plan j) table answer held (order j) turns-are
 
   -- "a print buffer of 256 + 64 × N + 2 × A bytes" has room for it, and it fills its start
   module _ (w : List ℕ) (room : printNeed (netCount j) (entryCount j) ≤ length w) where
-    pub plan-fits : length (planText n nets table answer vias total most) ≤ length w
+    pub plan-fits : length (planText n table answer vias total most) ≤ length w
     plan-fits = omega (arith, ap length plan-text, print-room lent j acc)
 
-    pub plan-overwrites : sets w 0 (planText n nets table answer vias total most) ≡ overwrite (printed j (order j) (plan j)) w
+    pub plan-overwrites : sets w 0 (planText n table answer vias total most) ≡ overwrite (printed j (order j) (plan j)) w
     plan-overwrites = ap (sets w 0) plan-text ∙ sets-overwrite w (printed j (order j) (plan j)) (omega (arith, print-room lent j acc))

@@ -1,15 +1,16 @@
--- The texts that are written, over what the order, the net table and the answer list hold.
+-- The texts that are written, over what the net table and the answer list hold.
 -- Assumes nothing.
 use mathlib.Core.List.{List, [], _∷_, _++_, map}
 use mathlib.Core.Path.{_≡_, refl, sym, ap, ap₂, _∙_}
-use Prim.Native.Nat.{ℕ, suc, _+_, _-_, _≤_, _<_}
+use Prim.Native.Nat.{ℕ, zero, suc, _+_, _-_, _*_, _≤_, _<_}
 use native.Mathlib.Numerals.{add-one}
 use native.Mathlib.Omega.{arith}
-use lib.ListN.{length, take, getD}
+use lib.ListN.{length, getD, length-map}
 use Rattle.layout.specs.Parts.{part}
-use Rattle.layout.specs.Table.{firstColumn, countColumn, viasColumn}
+use Rattle.layout.specs.Table.{turnColumn, firstColumn, countColumn, viasColumn}
 use Rattle.model.specs.Lists.{upFrom}
 use Rattle.model.specs.Print.{printLine, printNet, printNets}
+use Rattle.theory.specs.congestion.Base.{length-upFrom}
 
 -- a key with its `=`, a text, byte 10
 abbrev pub line : List ℕ → List ℕ → List ℕ
@@ -50,13 +51,36 @@ pub record RowInside (table answer : List ℕ) (i : ℕ) : Type 0 where
 abbrev pub Rows : ℕ → List ℕ → List ℕ → Type 0
 Rows n table answer = (i : ℕ) → i < n → RowInside table answer i
 
+-- ---- the nets in placing order
+
+-- the net of each of n turns, as the table has them
+abbrev pub turnsOf : List ℕ → ℕ → List ℕ
+turnsOf table n = map (λ k. getD table (turnColumn k) 0) (upFrom 0 n)
+
+pub turns-long : (table : List ℕ) (n : ℕ) → length (turnsOf table n) ≡ n
+turns-long table n = length-map {B = ℕ} (upFrom 0 n) (λ k. getD table (turnColumn k) 0) ∙ length-upFrom 0 n
+
+up-at : (f : ℕ → ℕ) (a n i : ℕ) → i < n → getD (map f (upFrom a n)) i 0 ≡ f (a + i)
+up-at f a zero i h = absurd (omega arith)
+up-at f a (suc n) zero h = let e : a ≡ a + 0 = omega arith in ap f e
+up-at f a (suc n) (suc i) h = let e : suc a + i ≡ a + suc i = omega arith in up-at f (suc a) n i (omega arith) ∙ ap f e
+
+pub turns-at : (table : List ℕ) (n i : ℕ) → i < n → getD (turnsOf table n) i 0 ≡ getD table (turnColumn i) 0
+turns-at table n i h =
+    let e : 0 + i ≡ i = omega arith in up-at (λ k. getD table (turnColumn k) 0) 0 n i h ∙ ap (λ (k : ℕ). getD table (turnColumn k) 0) e
+
+-- a table with a row for each of n nets has n turns
+pub rows-turns : (n : ℕ) (table answer : List ℕ) → Rows n table answer → (n ≤ 4096) × (6 * n ≤ length table)
+rows-turns zero table answer rows = (omega arith, omega arith)
+rows-turns (suc n) table answer rows = let r = rows n (omega arith) in (omega arith, omega arith)
+
 -- ---- the whole print
 
 abbrev pub totalsText : ℕ → ℕ → ℕ → List ℕ
 totalsText vias total most =
     printLine "total_vias" (vias ∷ []) ++ printLine "total_overflow" (total ∷ []) ++ printLine "max_overflow" (most ∷ [])
 
--- the first n numbers of the order, the n nets of the table, the totals
-abbrev pub planText : ℕ → List ℕ → List ℕ → List ℕ → ℕ → ℕ → ℕ → List ℕ
-planText n order table answer vias total most =
-    printLine "order" (take n order) ++ netsText table answer 0 n ++ totalsText vias total most
+-- the n nets in placing order, the n nets of the table, the totals
+abbrev pub planText : ℕ → List ℕ → List ℕ → ℕ → ℕ → ℕ → List ℕ
+planText n table answer vias total most =
+    printLine "order" (turnsOf table n) ++ netsText table answer 0 n ++ totalsText vias total most

@@ -1,15 +1,15 @@
 // The printed plan, or a refusal's line, written into a lent buffer. Every function writes a text from a place on, and returns the place behind it.
 ghost use mathlib.Core.List.{[], _∷_};
 ghost use mathlib.Core.Path.{_≡_};
-ghost use Prim.Native.Nat.{_+_, _≤_, _<_};
+ghost use Prim.Native.Nat.{_+_, _*_, _≤_, _<_};
 ghost use lib.ListN.{length, getD};
 ghost use lib.Seq.{sets};
-ghost use Rattle.layout.specs.Table.{firstColumn, countColumn, viasColumn};
+ghost use Rattle.layout.specs.Table.{turnColumn, firstColumn, countColumn, viasColumn};
 ghost use Rattle.model.specs.Calls.{refusal};
 ghost use Rattle.model.specs.Print.{printLine, printNet};
 ghost use Rattle.model.specs.Program.{written};
 ghost use Rattle.model.specs.Text.{decimal, decimals};
-ghost use Rattle.print.specs.Texts.{line, rowText, netsText, totalsText, planText, RowInside, Rows};
+ghost use Rattle.print.specs.Texts.{line, rowText, netsText, turnsOf, totalsText, planText, RowInside, Rows};
 ghost use Rattle.print.specs.Wrote.{Wrote};
 
 fn put_byte(b: &mut [u8], at: usize, x: u8) -> usize
@@ -32,8 +32,8 @@ fn put_text(b: &mut [u8], at: usize, x: &[u8]) -> usize
 
 // ---- a number in base ten
 
-// How many digits n has.
-fn digits(n: u64) -> usize
+// How many digits n has: divided off one by one.
+fn digits_divided(n: u64) -> usize
     ensures { λ r. ⌜ r ≡ length (decimal n) ⌝ }
 {
     let mut count: usize = 1;
@@ -43,6 +43,25 @@ fn digits(n: u64) -> usize
         count += 1;
     }
     count
+}
+
+// The same: of a number below 10000 by comparing alone.
+fn digits(n: u64) -> usize
+    ensures { λ r. ⌜ r ≡ length (decimal n) ⌝ }
+{
+    if n < 10 {
+        return 1;
+    }
+    if n < 100 {
+        return 2;
+    }
+    if n < 1000 {
+        return 3;
+    }
+    if n < 10000 {
+        return 4;
+    }
+    4 + digits_divided(n / 10000)
 }
 
 // The digits of n, the last one first.
@@ -83,16 +102,26 @@ fn put_next(b: &mut [u8], at: usize, x: u64) -> usize
     put_number(b, digit, x)
 }
 
-fn put_numbers(b: &mut [u8], from: usize, xs: &[u32]) -> usize
-    requires { ⌜ from + length (decimals (now xs)) ≤ length (now b) ⌝ }
-    ensures { λ r. ⌜ Wrote from (decimals (now (xs .entry))) (now (b .entry)) (now (b .exit)) r ⌝ }
+// The net whose turn is k, counted from 0, as the net table has it.
+fn turn_of(table: &[u32], k: usize) -> u32
+    requires { ⌜ (k < 4096) × (turnColumn k < length (now table)) ⌝ }
+    ensures { λ r. ⌜ r ≡ getD (now (table .entry)) (turnColumn k) 0 ⌝ }
 {
-    if xs.len() == 0 {
+    table[layout::turn_column(k)]
+}
+
+// The nets of n turns.
+fn put_turns(b: &mut [u8], from: usize, table: &[u32], n: usize) -> usize
+    requires { ⌜ (n ≤ 4096) × (6 * n ≤ length (now table)) ⌝ }
+    requires { ⌜ from + length (decimals (turnsOf (now table) n)) ≤ length (now b) ⌝ }
+    ensures { λ r. ⌜ Wrote from (decimals (turnsOf (now (table .entry)) n)) (now (b .entry)) (now (b .exit)) r ⌝ }
+{
+    if n == 0 {
         return from;
     }
-    let mut at = put_number(b, from, xs[0] as u64);
-    for i in 1..xs.len() {
-        at = put_next(b, at, xs[i] as u64);
+    let mut at = put_number(b, from, turn_of(table, 0) as u64);
+    for k in 1..n {
+        at = put_next(b, at, turn_of(table, k) as u64);
     }
     at
 }
@@ -123,12 +152,13 @@ fn put_line(b: &mut [u8], at: usize, key: &[u8], n: u64) -> usize
     put_byte(b, behind, 10)
 }
 
-fn put_order(b: &mut [u8], at: usize, nets: &[u32]) -> usize
-    requires { ⌜ at + length (printLine "order" (now nets)) ≤ length (now b) ⌝ }
-    ensures { λ r. ⌜ Wrote at (printLine "order" (now (nets .entry))) (now (b .entry)) (now (b .exit)) r ⌝ }
+fn put_order(b: &mut [u8], at: usize, table: &[u32], n: usize) -> usize
+    requires { ⌜ (n ≤ 4096) × (6 * n ≤ length (now table)) ⌝ }
+    requires { ⌜ at + length (printLine "order" (turnsOf (now table) n)) ≤ length (now b) ⌝ }
+    ensures { λ r. ⌜ Wrote at (printLine "order" (turnsOf (now (table .entry)) n)) (now (b .entry)) (now (b .exit)) r ⌝ }
 {
     let first = put_text(b, at, b"order=");
-    let last = put_numbers(b, first, nets);
+    let last = put_turns(b, first, table, n);
     put_byte(b, last, 10)
 }
 
@@ -211,24 +241,22 @@ fn put_totals(b: &mut [u8], at: usize, vias: u64, total: u64, most: u64) -> usiz
     put_line(b, c, b"max_overflow=", most)
 }
 
-// The printed plan from place 0 on: the first n numbers of `order` are the nets in placing order, and the net table has n rows.
+// The printed plan from place 0 on: the net table has n rows, and in them the nets in placing order.
 pub fn put_plan(
     b: &mut [u8],
     n: usize,
-    order: &[u32],
     table: &[u32],
     answer: &[u8],
     vias: u64,
     total: u64,
     most: u64,
 ) -> usize
-    requires { ⌜ n ≤ length (now order) ⌝ }
     requires { ⌜ Rows n (now table) (now answer) ⌝ }
-    requires { ⌜ length (planText n (now order) (now table) (now answer) vias total most) ≤ length (now b) ⌝ }
-    ensures { λ _. ⌜ now (b .exit) ≡ sets (now (b .entry)) 0 (planText n (now (order .entry)) (now (table .entry)) (now (answer .entry)) vias total most) ⌝ }
-    ensures { λ r. ⌜ r ≡ length (planText n (now (order .entry)) (now (table .entry)) (now (answer .entry)) vias total most) ⌝ }
+    requires { ⌜ length (planText n (now table) (now answer) vias total most) ≤ length (now b) ⌝ }
+    ensures { λ _. ⌜ now (b .exit) ≡ sets (now (b .entry)) 0 (planText n (now (table .entry)) (now (answer .entry)) vias total most) ⌝ }
+    ensures { λ r. ⌜ r ≡ length (planText n (now (table .entry)) (now (answer .entry)) vias total most) ⌝ }
 {
-    let a = put_order(b, 0, &order[..n]);
+    let a = put_order(b, 0, table, n);
     let c = put_nets(b, a, n, table, answer);
     put_totals(b, c, vias, total, most)
 }

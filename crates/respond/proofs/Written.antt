@@ -8,19 +8,20 @@ use native.Mathlib.Omega.{arith}
 use borrow.Author.Tests.{le-leb, lt-leb}
 use lib.ListN.{length, drop, replicate, length-append, length-replicate}
 use lib.Seq.{sets}
-use Rattle.calls.specs.Steps.{lentAs, entered, PrintLeft}
-use Rattle.calls.specs.declared.Outcome.{Outcome}
-use Rattle.calls.specs.declared.Outcome.the-variants.{Made, Refused}
-use Rattle.calls.specs.declared.Totals.{Totals}
-use Rattle.model.specs.Calls.{refusal, outcome, Buffers, overwrite, printLent, printCall}
+use Rattle.model.specs.Calls.{refusal, outcome, overwrite, printLent}
 use Rattle.model.specs.Program.{programLent, written, program}
 use Rattle.model.specs.Read.{Lent}
-use Rattle.model.specs.Score.{Entry}
+use Rattle.planning.specs.declared.Printed.{Printed}
+use Rattle.planning.specs.declared.Printed.the-variants.{Print, Refused}
+use Rattle.planning.specs.declared.Totals.{Totals}
 use Rattle.print.specs.Refusal.{refusal-most}
 use Rattle.print.specs.Wrote.{sets-overwrite}
+use Rattle.sort.specs.Entries.{noEntry}
+use Rattle.sort.specs.Placing.{order-count}
+use Rattle.sort.specs.declared.Entry.{Entry}
 use Rattle.text.specs.Refusals.{numberOf, lineOf}
 use Rattle.text.specs.declared.Refusal.{Refusal}
-use Rattle.respond.specs.Told.{answer, refused-told, printed-told}
+use Rattle.respond.specs.Told.{working, entries, bytes, programBuffers, Answered, refused-told, printed-told}
 
 -- ---- the line of a refusal
 
@@ -43,41 +44,28 @@ module _ (out : List ℕ) (room : 50 ≤ length out) (f : Refusal) (n l : ℕ) (
 pub too-long : (input : List ℕ) → 65536 < length input → program input ≡ written (refusal 1 0)
 too-long input h = rw (lt-leb (length input) 65536 h)
 
--- the order list that is lent holds nothing that is read
-abbrev pub blanks : List Entry
-blanks = replicate 4096 (record { net = 0; score = 0 })
-
 module _ (input out : List ℕ) (size : length out ≡ 65536) (short : length input ≤ 65536) where
-  abbrev b : Buffers
-  b = lentAs (replicate 16384 0) blanks (replicate 65536 0)
-
-  lent-is : printLent (lentAs (replicate 16384 0) blanks (replicate 65536 0)) out ≡ programLent
-  lent-is = lents (length-replicate {A = ℕ} 16384 0) (length-replicate {A = Entry} 4096 (record { net = 0; score = 0 })) (length-replicate {A = ℕ} 65536 0) size
+  lent-is : printLent programBuffers out ≡ programLent
+  lent-is = lents (length-replicate {A = ℕ} working 0) (order-count (replicate entries noEntry) ∙ length-replicate {A = Entry} entries noEntry) (length-replicate {A = ℕ} bytes 0) size
     where
       lents : {w o a p w′ o′ a′ p′ : ℕ} → w ≡ w′ → o ≡ o′ → a ≡ a′ → p ≡ p′
           → _≡_ {A = Lent} (record { working = w; order = o; answer = a; print = some p }) (record { working = w′; order = o′; answer = a′; print = some p′ })
       lents x y z q i = record { working = x i; order = y i; answer = z i; print = some (q i) }
 
-  program-is : program input ≡ written (outcome (printLent (lentAs (replicate 16384 0) blanks (replicate 65536 0)) out) input)
+  program-is : program input ≡ written (outcome (printLent programBuffers out) input)
   program-is = rw (le-leb (length input) 65536 short) (ap (λ (l : Lent). written (outcome l input)) (sym lent-is))
 
-  module _ (work′ nets′ scores′ answer′ out′ : List ℕ) (r : Outcome) (left : PrintLeft input (replicate 16384 0) work′ nets′ scores′ 4096 (replicate 65536 0) answer′ out out′ r) where
-    abbrev bs : Buffers
-    bs = lentAs work′ (entered nets′ scores′ r blanks) answer′
-
-    told : answer r (lentAs work′ (entered nets′ scores′ r blanks) answer′) out′ ≡ printCall input (lentAs (replicate 16384 0) blanks (replicate 65536 0)) out
-    told = left .told blanks (length-replicate {A = Entry} 4096 (record { net = 0; score = 0 }))
-
+  module _ (out′ : List ℕ) (r : Printed) (a : Answered input out out′ r) where
     pub program-refused : (f : Refusal) → r ≡ Refused f → (program input ≡ written (refusal (numberOf f) (lineOf f))) × (out′ ≡ out)
     program-refused f e =
-        let k = refused-told input b out bs out′ r told f e in
+        let k = refused-told input programBuffers out (a .left) out′ r (a .told) f e in
         (program-is ∙ ap written (k .0), k .1)
 
-    pub program-printed : (n : ℕ) (t : Totals) (bytes : ℕ) → r ≡ Made n t bytes → (out′ ≡ overwrite (program input) out) × (bytes ≡ length (program input))
-    program-printed n t bytes e =
-        let k = printed-told input b out bs out′ r told n t bytes e in
+    pub program-printed : (t : Totals) (n : ℕ) → r ≡ Print t n → (out′ ≡ overwrite (program input) out) × (n ≡ length (program input))
+    program-printed t n e =
+        let k = printed-told input programBuffers out (a .left) out′ r (a .told) t n e in
         (k .0 ∙ ap (λ (l : List ℕ). overwrite l out) (sym program-is), k .1 ∙ ap length (sym program-is))
 
 -- the text is inside the buffer
-pub inside : (text out out′ : List ℕ) (n : ℕ) → out′ ≡ overwrite text out → n ≡ length text → n ≤ length out′
-inside text out out′ n e l = omega (arith, ap length e, length-append text (drop (length text) out))
+pub inside : (text out out′ : List ℕ) (n : ℕ) → out′ ≡ overwrite text out → n ≡ length text → length out′ ≡ 65536 → n ≤ 65536
+inside text out out′ n e l long = omega (arith, ap length e, length-append text (drop (length text) out))

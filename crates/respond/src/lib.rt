@@ -1,18 +1,36 @@
 // What the program writes: the printed plan of the job in its input, or the line of its refusal.
-use calls::Outcome;
+use planning::Printed;
+use sort::Entry;
 use text::Refusal;
 ghost use mathlib.Core.Path.{_≡_};
 ghost use Prim.Native.Nat.{_≤_};
 ghost use lib.ListN.{length};
 ghost use Rattle.model.specs.Calls.{refusal, overwrite};
 ghost use Rattle.model.specs.Program.{written, program};
+ghost use Rattle.respond.specs.Told.{Answered};
 ghost use Rattle.text.specs.Refusals.{numberOf, lineOf};
 
 // "reads standard input of at most 65,536 bytes (more gives 1, 0)"
 pub const MOST_INPUT: usize = 65536;
 
-// "It lends [..] 4,096 order entries"
+// "It lends 16,384 working numbers, 4,096 order entries and 65,536 bytes each for answer and print"
+const WORKING: usize = 16384;
+
 const ENTRIES: usize = 4096;
+
+const ANSWER: usize = 65536;
+
+pub const PRINT: usize = 65536;
+
+// Print of an input, over the storage that the program lends. The borrow checker covers no function that lends entries, so this one is thin, and proved by a walk by hand.
+fn print_input(input: &[u8], out: &mut [u8]) -> Printed
+    ensures { λ r. ⌜ Answered (now (input .entry)) (now (out .entry)) (now (out .exit)) r ⌝ }
+{
+    let mut work = [0u32; WORKING];
+    let mut order = [Entry { net: 0, score: 0 }; ENTRIES];
+    let mut answer = [0u8; ANSWER];
+    calls::print(input, &mut work, &mut order, &mut answer, out)
+}
 
 // Writes the line of a refusal.
 fn refuse(out: &mut [u8], r: Refusal) -> usize
@@ -25,30 +43,17 @@ fn refuse(out: &mut [u8], r: Refusal) -> usize
     print::put_refusal(out, number, line)
 }
 
-// The text for an input, at the start of `out`, and its length. The program reads no entry of the order list, so it lends Print's two lists and no entries.
-pub fn respond(input: &[u8], out: &mut [u8]) -> usize
-    requires { ⌜ length (now out) ≡ 65536 ⌝ }
+// The text for an input, at the start of `out`, and its length.
+pub fn respond(input: &[u8], out: &mut [u8; PRINT]) -> usize
     ensures { λ _. ⌜ now (out .exit) ≡ overwrite (program (now (input .entry))) (now (out .entry)) ⌝ }
-    ensures { λ n. ⌜ (n ≡ length (program (now (input .entry)))) × (n ≤ length (now (out .exit))) ⌝ }
-    ensures { λ _. ⌜ 65536 ≡ length (now (out .exit)) ⌝ }
+    ensures { λ n. ⌜ (n ≡ length (program (now (input .entry)))) × (n ≤ 65536) ⌝ }
+    ensures { λ _. ⌜ length (now (out .exit)) ≡ 65536 ⌝ }
 {
     if MOST_INPUT < input.len() {
         return refuse(out, Refusal::TooLong);
     }
-    let mut work = [0u32; 16384];
-    let mut nets = [0u32; 4096];
-    let mut scores = [0u64; 4096];
-    let mut answer = [0u8; 65536];
-    match calls::print_lists(
-        input,
-        &mut work,
-        &mut nets,
-        &mut scores,
-        ENTRIES,
-        &mut answer,
-        out,
-    ) {
-        Outcome::Refused(r) => refuse(out, r),
-        Outcome::Made(_, _, size) => size,
+    match print_input(input, out) {
+        Printed::Refused(r) => refuse(out, r),
+        Printed::Print(_, size) => size,
     }
 }

@@ -42,11 +42,11 @@ use Rattle.model.specs.Demand3.{Met}
 use Rattle.model.specs.Job.{Job}
 use Rattle.model.specs.Read.{Place, found, read}
 use Rattle.calls.specs.Calls.{buffersOf, returnedOf}
-use Rattle.calls.specs.declared.Entry.{Entry}
-use Rattle.calls.specs.declared.Planned.{Planned}
-use Rattle.calls.proofs.Entry as T
-use Rattle.calls.proofs.Planned as O
-use Rattle.calls.proofs.Planned.Laws as O′
+use Rattle.sort.specs.declared.Entry.{Entry}
+use Rattle.planning.specs.declared.Planned.{Planned}
+use Rattle.sort.proofs.Entry as T
+use Rattle.planning.proofs.Planned as O
+use Rattle.planning.proofs.Planned.Laws as O′
 use Rattle.calls.proofs.Facts.{says-three}
 use Rattle.calls.proofs.plan as call
 use Rattle.calls.proofs.plan.Symbol as call-def

@@ -42,11 +42,11 @@ use Rattle.model.specs.Demand3.{Met}
 use Rattle.model.specs.Job.{Job}
 use Rattle.model.specs.Read.{Place, found, read}
 use Rattle.calls.specs.Calls.{buffersOf, returnedOf, planOf, sizeOf}
-use Rattle.calls.specs.declared.Entry.{Entry}
-use Rattle.calls.specs.declared.Printed.{Printed}
-use Rattle.calls.proofs.Entry as T
-use Rattle.calls.proofs.Printed as O
-use Rattle.calls.proofs.Printed.Laws as O′
+use Rattle.sort.specs.declared.Entry.{Entry}
+use Rattle.planning.specs.declared.Printed.{Printed}
+use Rattle.sort.proofs.Entry as T
+use Rattle.planning.proofs.Printed as O
+use Rattle.planning.proofs.Printed.Laws as O′
 use Rattle.calls.proofs.Facts.{says-two}
 use Rattle.calls.proofs.print as call
 use Rattle.calls.proofs.print.Symbol as call-def

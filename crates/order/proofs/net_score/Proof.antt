@@ -57,7 +57,7 @@ score-requires c κs =
       omega (arith, a),
       omega (arith, a),
       omega (arith, a),
-      pins-small (x .s .now) (x .g) (x .a) (x .w .now) (x .table .now) (o .lent) (o .job) (o .ready) (x .i) (o .there) (pins b) (pins-is b),
+      pins-small (x .s .now) (x .g) (x .a) (x .w .now) (x .table .now) (o .lent) (o .job) (o .ready) (x .i) (o .there) (pins b) (pins-is b) (o .pins),
       demand-small (x .s .now) (x .g) (x .a) (x .w .now) (x .table .now) (o .lent) (o .job) (o .ready) (x .i) (o .there) (c .weighed-density .result)
           (c .weighed-density .ensures (o .job) (netOf (o .job) (suc (x .i)))
           (line-at (x .s .now) (x .g) (x .a) (x .w .now) (x .table .now) (o .lent) (o .job) (o .ready) (x .i) (o .there) (p b) (p-is b)) (o .ready .demands) (o .ready .capacities)),
@@ -68,8 +68,8 @@ returns c =
     let d = c .before in
     let b = d .before in
     let x = s b .args in
-    λ lent j ready h.
-    score-is (x .s .now) (x .g) (x .a) (x .w .now) (x .table .now) lent j ready (x .i) h (edges b) (pins b) (d .weighed-density .result) (edges-is b) (pins-is b)
+    λ lent j ready h are.
+    score-is (x .s .now) (x .g) (x .a) (x .w .now) (x .table .now) lent j ready (x .i) h (edges b) (pins b) (d .weighed-density .result) (edges-is b) (pins-is b) are
     (d .weighed-density .ensures j (netOf j (suc (x .i)))
     (line-at (x .s .now) (x .g) (x .a) (x .w .now) (x .table .now) lent j ready (x .i) h (p b) (p-is b)) (ready .demands) (ready .capacities))
     (c .score .result) (c .score .ensures)

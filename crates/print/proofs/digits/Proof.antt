@@ -1,28 +1,21 @@
--- `digits` meets its contract. The loop's invariant: the digits counted, and those of what is left.
+-- `digits` meets its contract.
 -- Assumes nothing.
-use mathlib.Core.Path.{_≡_}
-use Prim.Native.Nat.{_+_}
 use native.Mathlib.Omega.{arith}
-use lib.ListN.{length}
-use Rattle.model.specs.Text.{decimal}
+use borrow.Author.Needs.{needs}
 use Rattle.print.specs.Refusal.{digits-most}
-use Rattle.print.proofs.Steps.{tenth-long, one-long}
+use Rattle.print.proofs.Steps.{one-long, two-long, three-long, four-long, four-more}
 use Rattle.print.proofs.digits.Statement.{statement}
 use Rattle.print.proofs.digits.Tie as tie
-
-abbrev Inv-loop : tie.InvT-loop
-Inv-loop n count₀ left₀ count left = count + length (decimal left) ≡ 1 + length (decimal n)
-
-abbrev μ-loop : tie.MeasureT-loop
-μ-loop n count₀ left₀ count left = left
 
 pub digits-spec : {M : Type 1} → statement M
 digits-spec =
     tie.close
     (tie.spec
-    Inv-loop μ-loop
-    (λ c. omega arith)
-    (λ c. omega (arith, digits-most (c .before .before .args .n) (omega arith)))
-    (λ c. omega arith)
-    (λ c. omega (arith, tenth-long (c .before .loop .left) (omega arith)))
-    (λ c. omega (arith, one-long (c .before .loop .left) (omega arith))))
+    (λ c. omega (arith, one-long (c .before .args .n) (omega arith)))
+    (λ c. omega (arith, two-long (c .before .before .args .n) (omega arith) (omega arith)))
+    (λ c. omega (arith, three-long (c .before .before .before .args .n) (omega arith) (omega arith)))
+    (λ c. omega (arith, four-long (c .before .before .before .before .args .n) (omega arith) (omega arith)))
+    (λ c κs. search needs)
+    (λ c. let s = c .before .before .before .before .before in
+    omega (arith, digits-most (s .args .n) (omega arith), four-more (s .args .n) (omega arith)))
+    (λ c. omega (arith, four-more (c .before .before .before .before .before .args .n) (omega arith))))

@@ -4,7 +4,6 @@ use mathlib.Core.Path.{_≡_, refl, _∙_}
 use Prim.Native.Nat.{_+_, _-_, _≤_, _<_}
 use native.Mathlib.Omega.{arith}
 use lib.ListN.{length, drop}
-use borrow.Author.Needs.{needs}
 use Rattle.print.specs.Lists.{others}
 use Rattle.print.specs.Wrote.{Left, wrote-long, left-start}
 use Rattle.print.proofs.Steps.{list-none, first-room, others-room, list-whole, turn-room, turn-more, others-done}

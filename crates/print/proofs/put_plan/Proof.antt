@@ -1,13 +1,9 @@
 -- `put_plan` meets its contract.
 -- Assumes nothing.
-use mathlib.Core.List.{[], _∷_}
-use mathlib.Core.Path.{sym}
 use native.Mathlib.Omega.{arith}
-use lib.ListN.{take}
-use lib.Seq.{length-take-le}
 use borrow.Author.Needs.{needs}
 use Rattle.model.specs.Print.{printLine}
-use Rattle.print.specs.Texts.{netsText, totalsText}
+use Rattle.print.specs.Texts.{netsText, turnsOf, rows-turns, totalsText}
 use Rattle.print.specs.Wrote.{room-one, room-two, room-three, wrote-then, from-start}
 use Rattle.print.proofs.put_plan.Statement.{statement}
 use Rattle.print.proofs.put_plan.Tie as tie
@@ -16,18 +12,18 @@ pub put-plan-spec : {M : Type 1} → statement M
 put-plan-spec =
     tie.close
     (tie.spec
-    (λ c. let s = c .before .before .before .before .before .before in
-    sym (length-take-le (s .args .n) (s .args .order .now) (s .pre .0)))
-    (λ c κs. let s = c .before .before .before .before .before .before in
-    room-one 0 (printLine "order" (take (s .args .n) (s .args .order .now))) (netsText (s .args .table .now) (s .args .answer .now) 0 (s .args .n))
-    (totalsText (s .args .vias) (s .args .total) (s .args .most)) (s .args .b .now) (omega (arith, s .pre .1 .1)))
-    (λ c κs. let s = c .before .before .before .before .before .before .before .before .before .before in (
-      s .pre .1 .0,
-      room-two 0 (printLine "order" (take (s .args .n) (s .args .order .now))) (netsText (s .args .table .now) (s .args .answer .now) 0 (s .args .n))
-          (totalsText (s .args .vias) (s .args .total) (s .args .most)) (s .args .b .now) (omega (arith, s .pre .1 .1)) (c .before .before .before .put-order .ensures),
+    (λ c κs. let s = c .before .before .before .before in (
+      rows-turns (s .args .n) (s .args .table .now) (s .args .answer .now) (s .pre .0),
+      room-one 0 (printLine "order" (turnsOf (s .args .table .now) (s .args .n))) (netsText (s .args .table .now) (s .args .answer .now) 0 (s .args .n))
+          (totalsText (s .args .vias) (s .args .total) (s .args .most)) (s .args .b .now) (omega (arith, s .pre .1)),
     ))
-    (λ c κs. let s = c .before .before .before .before .before .before .before .before .before .before .before .before .before .before in
-    room-three 0 (printLine "order" (take (s .args .n) (s .args .order .now))) (netsText (s .args .table .now) (s .args .answer .now) 0 (s .args .n))
-    (totalsText (s .args .vias) (s .args .total) (s .args .most)) (s .args .b .now) (omega (arith, s .pre .1 .1)) (c .before .before .before .before .before .before .before .put-order .ensures) (c .before .before .before .put-nets .ensures))
+    (λ c κs. let s = c .before .before .before .before .before .before .before .before in (
+      s .pre .0,
+      room-two 0 (printLine "order" (turnsOf (s .args .table .now) (s .args .n))) (netsText (s .args .table .now) (s .args .answer .now) 0 (s .args .n))
+          (totalsText (s .args .vias) (s .args .total) (s .args .most)) (s .args .b .now) (omega (arith, s .pre .1)) (c .before .before .before .put-order .ensures),
+    ))
+    (λ c κs. let s = c .before .before .before .before .before .before .before .before .before .before .before .before in
+    room-three 0 (printLine "order" (turnsOf (s .args .table .now) (s .args .n))) (netsText (s .args .table .now) (s .args .answer .now) 0 (s .args .n))
+    (totalsText (s .args .vias) (s .args .total) (s .args .most)) (s .args .b .now) (omega (arith, s .pre .1)) (c .before .before .before .before .before .before .before .put-order .ensures) (c .before .before .before .put-nets .ensures))
     (λ c. search needs)
     (λ c. from-start (wrote-then (wrote-then (c .before .before .before .before .before .before .before .before .before .before .put-order .ensures) (c .before .before .before .before .before .before .put-nets .ensures)) (c .before .before .put-totals .ensures))))

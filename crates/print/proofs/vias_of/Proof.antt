@@ -1,8 +1,9 @@
 -- `vias_of` meets its contract.
 -- Assumes nothing.
 use borrow.Author.Needs.{needs}
+use Rattle.print.proofs.Nets.{same-place}
 use Rattle.print.proofs.vias_of.Statement.{statement}
 use Rattle.print.proofs.vias_of.Tie as tie
 
 pub vias-of-spec : {M : Type 1} → statement M
-vias-of-spec = tie.close (tie.spec (λ c κs. search needs) (λ c. search needs) (λ c. search needs) (λ c. cc))
+vias-of-spec = tie.close (tie.spec (λ c κs. search needs) (λ c. search needs) (λ c. search needs) (λ c. search (same-place, needs)))

@@ -1,0 +1,181 @@
+-- From the checked text to the scored job, and from there to the plan.
+-- Assumes nothing.
+use mathlib.Core.List.{List}
+use mathlib.Core.Logic.{inr}
+use mathlib.Core.Path.{_≡_, sym, ap, ap₂, _∙_}
+use Prim.Native.Nat.{ℕ, _+_, _-_, _*_, _≤_, _<_}
+use native.Mathlib.Omega.{arith}
+use lib.ListN.{length, getD}
+use lib.Seq.{sets}
+use Rattle.head.specs.declared.Head.{Head}
+use Rattle.layout.specs.Areas.{loadsAt, demandAt, flatAt, tilesAt, areasEnd, edge-room}
+use Rattle.layout.specs.Parts.{Outside, part-outside}
+use Rattle.layout.specs.Shapes.{Shaped}
+use Rattle.layout.specs.declared.Shape.{Shape}
+use Rattle.model.specs.Job.{Job, netCount, edgeCount, entryCount}
+use Rattle.model.specs.Limits.{mostNets}
+use Rattle.model.specs.Overflow.{limit, ceilDiv}
+use Rattle.model.specs.Plan.{plan}
+use Rattle.model.specs.Read.{Lent, printNeed}
+use Rattle.net.specs.AtHand.{tilesOf}
+use Rattle.net.specs.SoFar.{Capacities}
+use Rattle.net.specs.Table.{PinCounts}
+use Rattle.order.specs.Ready.{Ready, SomeJob, Scored, ready-checked}
+use Rattle.order.specs.declared.Weights.{Weights}
+use Rattle.placing.specs.Turns.{Start}
+use Rattle.print.specs.Held.{Held, Handed, plan-rows, plan-text, plan-fits, plan-overwrites}
+use Rattle.print.specs.Texts.{planText, Rows}
+use Rattle.reader.specs.Whole.{JobFound}
+use Rattle.theory.specs.links.Limits.{demand-small, capacity-small, maximum-small}
+use Rattle.theory.specs.links.Planned.{plan-meets, plan-maximum}
+use Rattle.theory.specs.links.Reading.{Accepted, accepted}
+use Rattle.tracks.specs.FlatPlan.{FlatCapacities, FlatDemands, Overflows, so-far-first}
+use Rattle.tracks.specs.Places.{SmallCapacities, small-capacities}
+use Rattle.tracks.specs.declared.Flat.{Flat}
+use Rattle.turn.specs.Turn.{of-job}
+use Rattle.planning.specs.Closing.{Turned, PlanMade, PrintMade}
+use Rattle.planning.specs.Opening.{Given, OpenFound}
+use Rattle.planning.specs.declared.Totals.{Totals}
+
+-- ---- a text that is read
+
+module _ (s : List ℕ) (lent : Lent) (w table : List ℕ) (h : Head) (entries : ℕ) (k : JobFound s lent w table h entries) where
+  job-accepted : Accepted lent (k .job)
+  job-accepted = accepted lent s (k .job) (k .place) (k .is)
+
+  pub shaped : Shaped (h .shape)
+  shaped = k .checked .shaped
+
+  layers-are : h .shape .k ≡ k .job .layers
+  layers-are = ap (λ (x : Shape). x .k) (k .checked .shape)
+
+  pub flat-room : tilesAt (h .shape) ≤ length w
+  flat-room = omega (arith, k .checked .room)
+
+  pub small : SmallCapacities (h .shape) w
+  small = small-capacities (h .shape) (k .job) w (k .checked .capacities) (capacity-small lent (k .job) job-accepted)
+
+  -- its flat capacities are in their place
+  module _ (w₁ : List ℕ) (flat : (i : Job) → Capacities (h .shape) i w → h .shape .k ≡ i .layers → FlatCapacities (h .shape) i w₁)
+      (out : Outside (flatAt (h .shape)) (h .shape .e) w w₁) where
+    flat-here : FlatCapacities (h .shape) (k .job) w₁
+    flat-here = flat (k .job) (k .checked .capacities) layers-are
+
+    pub still-room : tilesAt (h .shape) ≤ length w₁
+    still-room = omega (arith, out .long, flat-room)
+
+    ready : (a : Weights) → a .alpha ≡ h .alpha → a .beta ≡ h .beta → a .gamma ≡ h .gamma → Ready s (h .shape) a w₁ table lent (k .job)
+    ready a x y z =
+        ready-checked s (h .shape) a w w₁ table lent (k .job) job-accepted (k .checked) out flat-here (x ∙ k .alpha) (y ∙ k .beta) (z ∙ k .gamma)
+
+    pub some-job : (a : Weights) → a .alpha ≡ h .alpha → a .beta ≡ h .beta → a .gamma ≡ h .gamma → SomeJob s (h .shape) a w₁ table (h .nets)
+    some-job a x y z = record { lent = lent; job = k .job; ready = ready a x y z; pins = k .checked .pin-counts; count = k .nets }
+
+    tiles-same : tilesOf (h .shape) w₁ ≡ tilesOf (h .shape) w
+    tiles-same = part-outside (flatAt (h .shape)) (h .shape .e) w w₁ out (tilesAt (h .shape)) (h .shape .t) (inr (omega arith))
+
+    given : Given h w₁ lent (k .job)
+    given = record {
+      accepted = job-accepted;
+      shape = k .checked .shape;
+      shaped = shaped;
+      room = omega (arith, out .long, k .checked .room);
+      capacities = record { caps = λ e l b x y. out .low (e * h .shape .k + (l - 1)) (omega (arith, edge-room (h .shape) e b)) ∙ k .checked .capacities .caps e l b x y };
+      flat = flat-here;
+      demands = λ e b. out .low (demandAt (h .shape) + e) (omega arith) ∙ k .checked .demand e b;
+      loads = λ i b. out .low (loadsAt (h .shape) + i) (omega arith) ∙ k .checked .loads (loadsAt (h .shape) + i) (omega arith) (omega arith);
+      marks = λ t. omega (arith, ap (λ (l : List ℕ). getD l t 0) tiles-same, k .checked .marks t, k .nets);
+      count = k .nets;
+    }
+
+    -- and its nets are scored
+    pub opened : (a : Weights) → a .alpha ≡ h .alpha → a .beta ≡ h .beta → a .gamma ≡ h .gamma → (table′ : List ℕ)
+        → ((l : Lent) (j : Job) → Ready s (h .shape) a w₁ table l j → PinCounts j table → h .nets ≡ netCount j → Scored s j table′) → OpenFound s lent w₁ table′ h
+    opened a x y z table′ scored = record {
+      job = k .job;
+      place = k .place;
+      is = k .is;
+      given = given;
+      scored = scored lent (k .job) (ready a x y z) (k .checked .pin-counts) (k .nets);
+    }
+
+-- ---- a job whose order stands
+
+module _ (s : List ℕ) (h : Head) (w table : List ℕ) (size : ℕ) (lent : Lent) (j : Job) (at : Turned s h w table size lent j) where
+  abbrev g : Shape
+  g = h .shape
+
+  edges-are : h .shape .e ≡ edgeCount j
+  edges-are = ap (λ (x : Shape). x .e) (at .given .shape)
+
+  pub tiles-room : tilesAt (h .shape) ≤ length w
+  tiles-room = omega (arith, at .given .room)
+
+  pub few-nets : h .nets ≤ 4096
+  few-nets = omega (arith, at .given .count, at .given .accepted .net-count)
+
+  pub few-demands : (e : ℕ) → e < h .shape .e → getD w (demandAt (h .shape) + e) 0 ≤ mostNets
+  few-demands e b = omega (arith, at .given .demands e b, demand-small lent j (at .given .accepted) e, at .given .accepted .net-count)
+
+  module _ (w₁ : List ℕ) (r : Flat)
+      (over : (i : Job) → FlatDemands (h .shape) i w → FlatCapacities (h .shape) i w → h .shape .e ≡ edgeCount i → Overflows (h .shape) i w₁ r)
+      (out : Outside (demandAt (h .shape)) (h .shape .e) w w₁) where
+    pub overflows-here : Overflows (h .shape) j w₁ r
+    overflows-here = over j (at .given .demands) (at .given .flat) edges-are
+
+    pub few-most : r .most ≤ mostNets
+    few-most = omega (arith, overflows-here .most, maximum-small lent j (at .given .accepted), at .given .accepted .net-count)
+
+    pub all-room : areasEnd (h .shape) ≤ length w₁
+    all-room = omega (arith, out .long, at .given .room)
+
+    pub limit-told : (m : ℕ) → m ≡ ceilDiv (r .most) (h .shape .k) → m ≡ limit j
+    limit-told m e = e ∙ ap₂ ceilDiv (overflows-here .most) (ap (λ (x : Shape). x .k) (at .given .shape))
+
+    tiles-kept : tilesOf (h .shape) w₁ ≡ tilesOf (h .shape) w
+    tiles-kept = part-outside (demandAt g) (g .e) w w₁ out (tilesAt g) (g .t) (inr (omega arith))
+
+    pub placing-starts : (m : ℕ) → m ≡ ceilDiv (r .most) (h .shape .k) → Start s (h .shape) (h .nets) m w₁ table size lent j
+    placing-starts m m-is = record {
+      accepted = at .given .accepted;
+      grid = of-job g j (at .given .shape);
+      count = at .given .count;
+      limit-is = limit-told m m-is;
+      so-far = so-far-first g j w (at .given .capacities) (at .given .loads) w₁ r overflows-here out;
+      older = λ t. omega (arith, ap (λ (l : List ℕ). getD l t 0) tiles-kept, at .given .marks t);
+      rows = at .rows;
+      turns-are = at .turns;
+      room = at .room;
+    }
+
+-- ---- a plan that is made
+
+module _ (s : List ℕ) (h : Head) (w table answer answer′ table′ : List ℕ) (t : Totals) (lent : Lent) (j : Job) (at : Turned s h w table (length answer) lent j) (made : PlanMade j answer answer′ table′ t) where
+  acc : Accepted lent j
+  acc = at .given .accepted
+
+  held : Held j (plan j) table′ answer′
+  held = made .placed .held
+
+  handed : Handed j (h .nets) table′ (t .vias) (t .total) (t .maximum)
+  handed = record {
+    count = at .given .count;
+    turns = λ k b. made .placed .turns-are k (omega (arith, at .given .count));
+    vias-told = made .placed .vias-are;
+    total-told = made .total-is ∙ sym (plan-meets lent j acc .least-total);
+    most-told = made .maximum-is ∙ sym (plan-maximum lent j acc);
+  }
+
+  pub rows-there : Rows (h .nets) table′ answer′
+  rows-there = plan-rows lent j acc table′ answer′ held (h .nets) (t .vias) (t .total) (t .maximum) handed
+
+  module _ (out : List ℕ) (room : printNeed (netCount j) (entryCount j) ≤ length out) where
+    pub text-fits : length (planText (h .nets) table′ answer′ (t .vias) (t .total) (t .maximum)) ≤ length out
+    text-fits = plan-fits lent j acc table′ answer′ held (h .nets) (t .vias) (t .total) (t .maximum) handed out room
+
+    pub print-made : (out′ : List ℕ) (size : ℕ) → out′ ≡ sets out 0 (planText (h .nets) table′ answer′ (t .vias) (t .total) (t .maximum))
+        → size ≡ length (planText (h .nets) table′ answer′ (t .vias) (t .total) (t .maximum)) → PrintMade j out out′ size
+    print-made out′ size e l = record {
+      text-is = e ∙ plan-overwrites lent j acc table′ answer′ held (h .nets) (t .vias) (t .total) (t .maximum) handed out room;
+      size-is = l ∙ ap length (plan-text lent j acc table′ answer′ held (h .nets) (t .vias) (t .total) (t .maximum) handed);
+    }

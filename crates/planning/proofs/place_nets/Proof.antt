@@ -1,0 +1,67 @@
+-- `place_nets` meets its contract: overflow in the place of demand, then the turns of all nets (`Steps.antt`).
+-- Assumes nothing.
+use mathlib.Core.Path.{_∙_}
+use native.Mathlib.Omega.{arith}
+use lib.ListN.{length}
+use borrow.Author.Needs.{needs}
+use Rattle.planning.proofs.Steps.{tiles-room, few-nets, few-demands, overflows-here, few-most, all-room, limit-told, placing-starts}
+use Rattle.planning.proofs.place_nets.Statement.{statement}
+use Rattle.planning.proofs.place_nets.Tie as tie
+
+overflows-requires : tie.Need-overflows-requires
+overflows-requires c κs =
+    let z = c .before .before .before .before .before in
+    let x = z .args in
+    let o = z .pre in
+    (o .turned .given .shaped, (tiles-room (x .s .now) (x .h) (x .w .now) (x .table .now) (length (x .answer .now)) (o .lent) (o .job) (o .turned), few-demands (x .s .now) (x .h) (x .w .now) (x .table .now) (length (x .answer .now)) (o .lent) (o .job) (o .turned)))
+
+limit-of-requires : tie.Need-limit-of-requires
+limit-of-requires c κs =
+    let v = c .before .before in
+    let z = v .before .before .before .before .before .before in
+    let x = z .args in
+    let o = z .pre in
+    let q = o .turned .given .shaped in
+    (few-most (x .s .now) (x .h) (x .w .now) (x .table .now) (length (x .answer .now)) (o .lent) (o .job) (o .turned) (v .overflows .last .0) (v .overflows .result) (v .overflows .ensures .0) (v .overflows .ensures .1), omega (arith, q .k-least), omega (arith, q .k-most))
+
+place-all-requires : tie.Need-place-all-requires
+place-all-requires c κs =
+    let l = c .before .before .before in
+    let v = l .before .before .before in
+    let z = v .before .before .before .before .before .before in
+    let x = z .args in
+    let o = z .pre in (
+      o .turned .given .shaped,
+      (
+        (
+          all-room (x .s .now) (x .h) (x .w .now) (x .table .now) (length (x .answer .now)) (o .lent) (o .job) (o .turned) (v .overflows .last .0) (v .overflows .result) (v .overflows .ensures .0) (v .overflows .ensures .1),
+          few-nets (x .s .now) (x .h) (x .w .now) (x .table .now) (length (x .answer .now)) (o .lent) (o .job) (o .turned),
+          o .turned .rows .long,
+        ),
+        record {
+          lent = o .lent;
+          job = o .job;
+          start = placing-starts (x .s .now) (x .h) (x .w .now) (x .table .now) (length (x .answer .now)) (o .lent) (o .job) (o .turned) (v .overflows .last .0) (v .overflows .result) (v .overflows .ensures .0) (v .overflows .ensures .1) (l .limit-of .result) (l .limit-of .ensures);
+        },
+      ),
+    )
+
+returns : tie.Need-returns
+returns c =
+    let y = c .before .before .before .before .before .before in
+    let l = y .before .before .before .before in
+    let v = l .before .before .before in
+    let x = v .before .before .before .before .before .before .args in (
+      λ lent j at. record {
+        placed = y .place-all .ensures .0 lent j (placing-starts (x .s .now) (x .h) (x .w .now) (x .table .now) (length (x .answer .now)) lent j at (v .overflows .last .0) (v .overflows .result) (v .overflows .ensures .0) (v .overflows .ensures .1) (l .limit-of .result) (l .limit-of .ensures));
+        total-is = overflows-here (x .s .now) (x .h) (x .w .now) (x .table .now) (length (x .answer .now)) lent j at (v .overflows .last .0) (v .overflows .result) (v .overflows .ensures .0) (v .overflows .ensures .1) .total;
+        maximum-is = limit-told (x .s .now) (x .h) (x .w .now) (x .table .now) (length (x .answer .now)) lent j at (v .overflows .last .0) (v .overflows .result) (v .overflows .ensures .0) (v .overflows .ensures .1) (l .limit-of .result) (l .limit-of .ensures);
+      },
+      y .place-all .ensures .1 .0 ∙ v .overflows .ensures .1 .long,
+    )
+
+pub place-nets-spec : {M : Type 1} → statement M
+place-nets-spec =
+    tie.close
+    (tie.spec
+    overflows-requires limit-of-requires place-all-requires (λ c. search needs) (λ c. search needs) (λ c. search needs) (λ c. search needs) returns)
