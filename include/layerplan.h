@@ -9,7 +9,7 @@
  * Both functions are proved: for every text and all lengths, what a call returns and what it leaves in each buffer is
  * what the definitions in crates/model/specs say (contracts: crates/layerplan_c/src/lib.rt). They use no heap and no
  * global state, so calls with different buffers may run at the same time in different threads, and of the C library
- * only memset. The proof does not bound the stack: as compiled, a call takes about 150 KB of it, whatever the job.
+ * only memset. The proof does not bound the stack: as compiled, a call takes about 100 KB of it, whatever the job.
  *
  * What a caller owes, for the proof says nothing of a call that breaks it:
  *
