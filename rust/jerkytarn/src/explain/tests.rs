@@ -1,0 +1,148 @@
+use super::*;
+use crate::planner::Planner;
+
+const EXAMPLE: &[u8] = include_bytes!("../../../../examples/three-tiles.job");
+
+/// The example with a line put in the place of another.
+fn with_line(number: usize, line: &str) -> Vec<u8> {
+    let lines = EXAMPLE.split_inclusive(|byte| *byte == b'\n').enumerate();
+    lines.flat_map(|(place, old)| if place + 1 == number { line.as_bytes() } else { old }.to_vec()).collect()
+}
+
+/// The library's refusal of a text, in words.
+fn refused(text: &[u8]) -> (u32, u32, String) {
+    let mut planner = Planner::new();
+    let refusal = planner.print(text).expect_err("the text is refused");
+    (refusal.number, refusal.line, message("a.job", text, refusal, planner.lent()))
+}
+
+/// That a text gets this number and line, and that the message has all of these words.
+fn expect(text: &[u8], number: u32, line: u32, words: &[&str]) {
+    let (got_number, got_line, message) = refused(text);
+    assert_eq!((got_number, got_line), (number, line), "{message}");
+    for word in words {
+        assert!(message.contains(word), "no {word:?} in\n{message}");
+    }
+    assert!(message.starts_with(&format!("a.job:{line}: refused {number}: ")), "{message}");
+}
+
+#[test]
+fn every_example_of_the_table_gets_its_number_and_line() {
+    for rule in &RULES {
+        let Some(text) = rule.example.text else { continue };
+        let mut lent = Planner::new().lent();
+        match rule.example.lend {
+            None => {}
+            Some("work=100") => lent.work = 100,
+            Some("order=1") => lent.order = 1,
+            Some("answer=2") => lent.answer = 2,
+            Some(other) => panic!("{other}"),
+        }
+        let refusal = Planner::lending(lent).print(text.as_bytes()).expect_err("an example is refused");
+        assert_eq!((refusal.number, refusal.line), (rule.number, rule.example.line));
+        let told = message("a.job", text.as_bytes(), refusal, lent);
+        assert!(told.contains("  found     "), "{told}");
+        assert!(in_words(rule).contains(rule.title));
+    }
+    assert!(RULES.iter().enumerate().all(|(place, rule)| rule.number as usize == place + 1));
+    assert!(overview().lines().count() > RULES.len());
+}
+
+#[test]
+fn keys_and_missing_lines() {
+    expect(b"", 2, 1, &["the text is empty", "`width=`"]);
+    expect(b"width=3\n", 2, 2, &["ends after line 1", "`height=`"]);
+    expect(b"width=3", 2, 1, &["not ended by a line feed"]);
+    expect(b"\xef\xbb\xbfwidth=3\n", 2, 1, &["byte order mark"]);
+    expect(b"\xff\xfew\0i\0", 2, 1, &["line feed"]);
+    expect(b"width=3\r\nheight=1\r\n", 2, 1, &["carriage return", "width=3\\r"]);
+    expect(b"Width=3\n", 2, 1, &["small letters"]);
+    expect(b"width = 3\n", 2, 1, &["spaces"]);
+    expect(b"width\n", 2, 1, &["without `=`"]);
+    expect(b"# a block\nwidth=3\n", 2, 1, &["comment"]);
+    expect(b"\nwidth=3\n", 2, 1, &["empty line"]);
+    expect(b"height=3\nwidth=3\n", 2, 1, &["the key `height`", "order width height"]);
+    expect(b"widht=3\n", 2, 1, &["the key `widht`", "no such key"]);
+    expect(&with_line(9, "nets=2\n"), 2, 9, &["`east` of layer 2"]);
+    expect(&with_line(11, "east=1,1\n"), 2, 11, &["raise `layers`, which is 2"]);
+    expect(&with_line(13, "edges=0,0,e\n"), 2, 13, &["`net`, `pins` and `edges`"]);
+    expect(&with_line(14, "net=2\n"), 2, 14, &["empty `edges=`"]);
+    expect(&with_line(15, "pins=0,0,1\n"), 2, 15, &["`net=2`"]);
+    expect(&[EXAMPLE, b"\n"].concat(), 2, 18, &["empty line after the last", "announces 2 nets"]);
+    expect(&[EXAMPLE, b"net=3\n"].concat(), 2, 18, &["raise the 2"]);
+    expect(&[EXAMPLE, b"bye"].concat(), 2, 18, &["not ended"]);
+    expect(&with_line(11, "nets=3\n"), 2, 18, &["`nets=2`", "ends after line 17"]);
+}
+
+#[test]
+fn values_of_another_form() {
+    expect(b"width=03\n", 2, 1, &["zero before", "width=03", "^^"]);
+    expect(b"width=\n", 2, 1, &["missing"]);
+    expect(b"width=300000\n", 2, 1, &["five digits"]);
+    expect(b"width=-3\n", 2, 1, &["sign"]);
+    expect(b"width=3.5\n", 2, 1, &["whole number"]);
+    expect(b"width=3 \n", 2, 1, &["spaces around"]);
+    expect(b"width=3\x1b[31m\n", 2, 1, &["width=3\\x1b[31m", "not a number"]);
+    expect(&with_line(7, "east=1\n"), 2, 7, &["1 entry", "2 capacities", "add the 1"]);
+    expect(&with_line(7, "east=1,1,1\n"), 2, 7, &["3 entries", "take out 1"]);
+    expect(&with_line(7, "east=1,\n"), 2, 7, &["entry 2: a number is missing", "comma too many"]);
+    expect(&with_line(8, "north=1\n"), 2, 8, &["empty list"]);
+    expect(&with_line(13, "pins=\n"), 2, 13, &["no pins"]);
+    expect(&with_line(13, "pins=0,0,1;\n"), 2, 13, &["pin 2: an empty entry", "semicolon too many"]);
+    expect(&with_line(13, "pins=0,0\n"), 2, 13, &["pin 1", "2 parts"]);
+    expect(&with_line(13, "pins=0,0,1,2,0,1\n"), 2, 13, &["6 parts", "semicolon, not a comma"]);
+    expect(&with_line(13, "pins=0,0,x\n"), 2, 13, &["layer: `x`"]);
+    expect(&with_line(14, "edges=1,0,w\n"), 2, 14, &["written 0,0,e"]);
+    expect(&with_line(14, "edges=0,1,s\n"), 2, 14, &["written 0,0,n"]);
+    expect(&with_line(14, "edges=0,0,E\n"), 2, 14, &["small letters"]);
+    expect(&with_line(14, "edges=0,0,up\n"), 2, 14, &["the way is `up`"]);
+}
+
+#[test]
+fn numbers_out_of_range() {
+    expect(b"width=65\n", 3, 1, &["`width` is 65", "from 1 to 64"]);
+    expect(&with_line(3, "layers=9\n"), 3, 3, &["from 2 to 8"]);
+    expect(&with_line(9, "east=1,256\n"), 3, 9, &["entry 2 is 256", "from tile 1,0 to tile 2,0 on layer 2"]);
+    expect(&with_line(11, "nets=4097\n"), 3, 11, &["from 0 to 4096"]);
+    expect(&with_line(13, "pins=3,0,1\n"), 3, 13, &["in pin 1 x is 3", "from 0 to 2"]);
+    expect(&with_line(13, "pins=0,0,1;0,1,1\n"), 3, 13, &["in pin 2 y is 1"]);
+    expect(&with_line(13, "pins=0,0,0\n"), 3, 13, &["the layer is 0", "from 1 to 2"]);
+    expect(&with_line(14, "edges=2,0,e\n"), 3, 14, &["in edge 1 the way east from tile 2,0 leaves the grid"]);
+    expect(&with_line(14, "edges=0,0,n\n"), 3, 14, &["no edge goes north from the last row"]);
+    expect(&with_line(14, "edges=9,0,e\n"), 3, 14, &["x is 9"]);
+}
+
+#[test]
+fn nets_pins_and_edges() {
+    expect(&with_line(15, "net=1\n"), 4, 15, &["net 1 stands twice", "the 2nd net"]);
+    expect(&with_line(15, "net=7\n"), 4, 15, &["before net 7"]);
+    expect(&with_line(12, "net=0\n"), 4, 12, &["the 1st net"]);
+    expect(&with_line(13, "pins=0,0,1;1,0,1;0,0,1\n"), 5, 13, &["entry 1 and again as entry 3"]);
+    expect(&with_line(14, "edges=1,0,e;1,0,e\n"), 6, 14, &["edge 1,0,e as entry 1 and again as entry 2"]);
+    expect(&with_line(14, "edges=0,0,e\n"), 8, 14, &["pin 2 of line 13, 2,0,1", "tile 1,0, which is reached"]);
+    expect(&with_line(17, "edges=1,0,e\n"), 8, 17, &["not reached from the first pin's tile 0,0"]);
+}
+
+#[test]
+fn an_edge_apart_and_a_ring() {
+    let head = "width=4\nheight=2\nlayers=2\nalpha=1\nbeta=1\ngamma=0\neast=1,1,1,1,1,1\nnorth=1,1,1,1\n\
+        east=1,1,1,1,1,1\nnorth=1,1,1,1\nnets=1\nnet=1\npins=0,0,1\n";
+    let job = |edges: &str| format!("{head}edges={edges}\n").into_bytes();
+    expect(&job("0,0,e;2,1,e"), 8, 14, &["edge 2, 2,1,e", "     ^^^^^"]);
+    expect(&job("0,0,e;1,0,e;0,0,n;0,1,e;2,0,n;1,1,e"), 7, 14, &["edge 1,1,e closes a ring with"]);
+    let (_, _, message) = refused(&job("2,0,e;0,0,e;0,0,n;0,1,e;1,0,n"));
+    assert!(message.contains("edge 1,0,n closes a ring with 0,1,e 0,0,n 0,0,e\n"), "{message}");
+}
+
+#[test]
+fn a_text_too_long() {
+    let (number, line, message) = refused(&vec![b'x'; layerplan::TEXT_MOST + 1]);
+    assert_eq!((number, line), (1, 0));
+    assert!(message.starts_with("a.job: refused 1: the text is too long\n  found"), "{message}");
+}
+
+#[test]
+fn an_unknown_number_is_told_as_such() {
+    let lent = Lengths::enough(0);
+    assert!(message("a", b"", Refusal { number: 77, line: 3 }, lent).starts_with("a:3: refused 77"));
+}

@@ -1,0 +1,236 @@
+//! What can be counted of a planned block: who uses which edge on which layer, and where the vias stand. It is counted
+//! from the job and the library's answer list, and held to the figures that the library returned.
+
+use crate::fault::Fault;
+use crate::job::{self, Grid, Job, Net};
+use crate::planner::{Planned, Planner};
+use layerplan::{Entry, Refusal, Totals};
+use std::cmp::Reverse;
+
+/// A planned block with its counts.
+pub struct Block {
+    pub job: Job,
+    pub totals: Totals,
+    /// The nets with their scores, in placing order.
+    pub order: Vec<Entry>,
+    /// The layers of each net's edges, in the order of its `edges` line.
+    pub layers: Vec<Vec<u8>>,
+    /// The nets on each edge of each layer: by layer from the bottom, then by edge.
+    pub used: Vec<Vec<usize>>,
+    /// The nets on each edge of the flat plan.
+    pub demand: Vec<usize>,
+    /// The vias of each net.
+    pub net_vias: Vec<usize>,
+    /// The vias of all nets at each tile: by level between layers from the bottom, then by tile.
+    pub tile_vias: Vec<Vec<usize>>,
+}
+
+/// A layer's edge: the layer from 1, and the edge's number.
+#[derive(Clone, Copy, PartialEq, Eq, Debug)]
+pub struct Place {
+    pub layer: usize,
+    pub edge: usize,
+}
+
+/// Total and largest overflow.
+#[derive(Clone, Copy, PartialEq, Eq, Debug, Default)]
+pub struct Overflow {
+    pub total: usize,
+    pub maximum: usize,
+}
+
+impl Overflow {
+    fn of(pairs: impl Iterator<Item = (usize, usize)>) -> Overflow {
+        pairs.fold(Overflow::default(), |sum, (used, capacity)| {
+            let over = used.saturating_sub(capacity);
+            Overflow { total: sum.total + over, maximum: sum.maximum.max(over) }
+        })
+    }
+}
+
+/// Plans a text and counts its figures: the block, or the library's refusal.
+pub fn plan(planner: &mut Planner, text: &[u8]) -> Result<Result<Block, Refusal>, Fault> {
+    match planner.plan(text) {
+        Ok(planned) => of(planned, text).map(Ok),
+        Err(refusal) => Ok(Err(refusal)),
+    }
+}
+
+/// Counts the figures of a text that the library planned so.
+pub fn of(planned: Planned, text: &[u8]) -> Result<Block, Fault> {
+    let unlike = |what: &str| Fault::new(format!("a fault of this program, please report it: {what}"));
+    let job = job::read(text).ok_or_else(|| unlike("a text that the library accepts was not understood here"))?;
+    let block = count(job, planned).ok_or_else(|| unlike("the library's answer does not fit the job as read here"))?;
+    match block.agrees() {
+        true => Ok(block),
+        false => Err(unlike("the figures counted here are not those that the library returned")),
+    }
+}
+
+/// Counts; nothing where the answer does not fit the job.
+fn count(job: Job, planned: Planned) -> Option<Block> {
+    let (edges, layers) = (job.grid.edges(), job.layers);
+    let mut block = Block {
+        totals: planned.totals,
+        order: planned.order.get(..job.nets.len())?.to_vec(),
+        layers: stretches(&job, planned.answer)?,
+        used: vec![vec![0; edges]; layers],
+        demand: vec![0; edges],
+        net_vias: Vec::with_capacity(job.nets.len()),
+        tile_vias: vec![vec![0; job.grid.tiles()]; layers.saturating_sub(1)],
+        job,
+    };
+    let mut masks = Masks::new(block.job.grid);
+    for (net, layers) in block.job.nets.iter().zip(&block.layers) {
+        for (edge, layer) in net.edges.iter().zip(layers) {
+            block.demand[*edge] += 1;
+            *block.used.get_mut(usize::from(*layer).checked_sub(1)?)?.get_mut(*edge)? += 1;
+        }
+        block.net_vias.push(masks.count(net, layers, &mut block.tile_vias));
+    }
+    Some(block)
+}
+
+/// The answer list, cut into each net's own stretch.
+fn stretches(job: &Job, answer: &[u8]) -> Option<Vec<Vec<u8>>> {
+    let mut rest = answer;
+    let mut layers = Vec::with_capacity(job.nets.len());
+    for net in &job.nets {
+        let (own, after) = rest.split_at_checked(net.edges.len())?;
+        layers.push(own.to_vec());
+        rest = after;
+    }
+    Some(layers)
+}
+
+/// The layer set of each tile of the net at hand, a bit for each layer; empty between nets.
+struct Masks {
+    grid: Grid,
+    masks: Vec<u32>,
+    touched: Vec<usize>,
+}
+
+impl Masks {
+    fn new(grid: Grid) -> Masks {
+        Masks { grid, masks: vec![0; grid.tiles()], touched: Vec::new() }
+    }
+
+    fn add(&mut self, tile: usize, layer: usize) {
+        if self.masks[tile] == 0 {
+            self.touched.push(tile);
+        }
+        self.masks[tile] |= 1 << layer;
+    }
+
+    /// The vias of a net: at each of its tiles one for every level between its lowest and its highest layer there.
+    fn count(&mut self, net: &Net, layers: &[u8], tile_vias: &mut [Vec<usize>]) -> usize {
+        for pin in &net.pins {
+            self.add(self.grid.number(pin.tile), pin.layer);
+        }
+        for (edge, layer) in net.edges.iter().zip(layers) {
+            for end in self.grid.ends(*edge) {
+                self.add(self.grid.number(end), usize::from(*layer));
+            }
+        }
+        let mut vias = 0;
+        for tile in self.touched.drain(..) {
+            let mask = std::mem::take(&mut self.masks[tile]);
+            let (low, high) = (mask.trailing_zeros() as usize, 31 - mask.leading_zeros() as usize);
+            tile_vias[low - 1..high - 1].iter_mut().for_each(|level| level[tile] += 1);
+            vias += high - low;
+        }
+        vias
+    }
+}
+
+impl Block {
+    pub fn capacity(&self, at: Place) -> usize {
+        self.job.capacity[at.layer - 1][at.edge]
+    }
+
+    pub fn used(&self, at: Place) -> usize {
+        self.used[at.layer - 1][at.edge]
+    }
+
+    pub fn overflow(&self, at: Place) -> usize {
+        self.used(at).saturating_sub(self.capacity(at))
+    }
+
+    /// All edges of all layers.
+    pub fn places(&self) -> impl Iterator<Item = Place> + '_ {
+        let edges = self.job.grid.edges();
+        (1..=self.job.layers).flat_map(move |layer| (0..edges).map(move |edge| Place { layer, edge }))
+    }
+
+    /// TO and MO of the flat plan.
+    pub fn flat_overflow(&self) -> Overflow {
+        let capacity = |edge: usize| self.job.capacity.iter().map(|layer| layer[edge]).sum();
+        Overflow::of(self.demand.iter().enumerate().map(|(edge, demand)| (*demand, capacity(edge))))
+    }
+
+    /// The same over all layers, as counted here.
+    pub fn layered_overflow(&self) -> Overflow {
+        Overflow::of(self.places().map(|at| (self.used(at), self.capacity(at))))
+    }
+
+    /// The place of each net in the placing order, from 1.
+    pub fn turns(&self) -> Vec<usize> {
+        let mut turns = vec![0; self.job.nets.len()];
+        for (turn, entry) in self.order.iter().enumerate() {
+            if let Some(place) = turns.get_mut((entry.net as usize).wrapping_sub(1)) {
+                *place = turn + 1;
+            }
+        }
+        turns
+    }
+
+    /// The fullest edges of all layers first: by overflow, then by the share used, then by the nets on them; none that
+    /// no net uses.
+    pub fn most_crowded(&self, count: usize) -> Vec<Place> {
+        let mut places: Vec<Place> = self.places().filter(|at| self.used(*at) > 0).collect();
+        let share = |at: &Place| (self.used(*at) * 1_000_000).checked_div(self.capacity(*at)).unwrap_or(usize::MAX);
+        places.sort_by_key(|at| (Reverse((self.overflow(*at), share(at), self.used(*at))), at.layer, at.edge));
+        places.truncate(count);
+        places
+    }
+
+    /// That the counts are the library's own figures.
+    fn agrees(&self) -> bool {
+        let vias: usize = self.net_vias.iter().sum();
+        let levels: usize = self.tile_vias.iter().flatten().sum();
+        let Overflow { total, maximum } = self.layered_overflow();
+        let counted = Totals { vias: vias as u64, overflow: total as u64, maximum: maximum as u64 };
+        counted == self.totals && levels == vias
+    }
+}
+
+#[cfg(test)]
+mod tests {
+    use super::*;
+
+    const EXAMPLE: &[u8] = include_bytes!("../../../examples/three-tiles.job");
+
+    #[test]
+    fn the_example_is_counted() {
+        let block = plan(&mut Planner::new(), EXAMPLE).unwrap().unwrap();
+        assert_eq!(block.layers, [vec![2, 1], vec![1]]);
+        assert_eq!(block.used, [[1, 1], [1, 0]]);
+        assert_eq!(block.demand, [2, 1]);
+        assert_eq!(block.net_vias, [2, 0]);
+        assert_eq!(block.tile_vias, [[1, 1, 0]]);
+        assert_eq!(block.turns(), [2, 1]);
+        assert_eq!(block.flat_overflow(), Overflow::default());
+        assert_eq!(block.most_crowded(9).len(), 3);
+    }
+
+    #[test]
+    fn the_flat_overflow_of_a_full_edge() {
+        let text = b"width=2\nheight=1\nlayers=2\nalpha=1\nbeta=1\ngamma=0\neast=0\nnorth=\neast=0\nnorth=\nnets=3\n\
+            net=1\npins=0,0,1\nedges=0,0,e\nnet=2\npins=0,0,1\nedges=0,0,e\nnet=3\npins=0,0,1\nedges=0,0,e\n";
+        let block = plan(&mut Planner::new(), text).unwrap().unwrap();
+        assert_eq!(block.flat_overflow(), Overflow { total: 3, maximum: 3 });
+        assert_eq!(block.layered_overflow(), Overflow { total: 3, maximum: 2 });
+        let fullest = block.most_crowded(1);
+        assert_eq!(fullest, [Place { layer: 1, edge: 0 }]);
+    }
+}

@@ -1,0 +1,284 @@
+//! The figures of a planned block: as a table for a person at a terminal, or as JSON for scripts.
+
+mod table;
+
+pub use table::{grouped, put_block, table, Style};
+
+use crate::explain::need;
+use crate::figures::{Block, Overflow, Place};
+use crate::job::Tile;
+use layerplan::Refusal;
+use serde::Serialize;
+use std::cmp::Reverse;
+
+/// All that is reported of a block. The table and the JSON text are both made from it.
+#[derive(Serialize, Debug)]
+pub struct Report {
+    pub job: String,
+    pub width: usize,
+    pub height: usize,
+    pub tiles: usize,
+    pub edges: usize,
+    pub layers: usize,
+    pub nets: usize,
+    pub pins: usize,
+    /// Entries on all `edges` lines.
+    pub entries: usize,
+    pub flat_overflow: Totals,
+    pub layered_overflow: Totals,
+    pub vias: u64,
+    /// What the library must be lent for the job.
+    pub lengths: Lengths,
+    pub by_layer: Vec<Layer>,
+    pub most_crowded: Vec<Crowded>,
+    pub vias_by_level: Vec<Level>,
+    pub vias_of_nets: Vec<Bucket>,
+    pub most_vias: Vec<Net>,
+}
+
+#[derive(Serialize, Clone, Copy, PartialEq, Eq, Debug)]
+pub struct Totals {
+    pub total: usize,
+    pub maximum: usize,
+}
+
+#[derive(Serialize, Clone, Copy, PartialEq, Eq, Debug)]
+pub struct Lengths {
+    pub work: usize,
+    pub order: usize,
+    pub answer: usize,
+    pub print: usize,
+}
+
+/// A layer: its tracks, how many of them are used, and its edges that are full or overflowed.
+#[derive(Serialize, Clone, PartialEq, Debug)]
+pub struct Layer {
+    pub layer: usize,
+    pub tracks: usize,
+    /// Nets on all its edges, those without a track included.
+    pub used: usize,
+    /// The part of the tracks that is used, 0 to 1.
+    pub share: f64,
+    /// Edges whose every track is used and that have one or more.
+    pub full: usize,
+    pub overflowed: usize,
+    pub overflow: usize,
+}
+
+/// An edge of a layer.
+#[derive(Serialize, Clone, PartialEq, Eq, Debug)]
+pub struct Crowded {
+    pub layer: usize,
+    pub from: [usize; 2],
+    pub to: [usize; 2],
+    pub capacity: usize,
+    pub used: usize,
+    pub overflow: usize,
+}
+
+/// The vias between a layer and the one above it.
+#[derive(Serialize, Clone, PartialEq, Eq, Debug)]
+pub struct Level {
+    pub lower: usize,
+    pub upper: usize,
+    pub vias: usize,
+}
+
+/// The nets with so many vias.
+#[derive(Serialize, Clone, PartialEq, Eq, Debug)]
+pub struct Bucket {
+    pub least: usize,
+    pub most: usize,
+    pub nets: usize,
+}
+
+#[derive(Serialize, Clone, PartialEq, Eq, Debug)]
+pub struct Net {
+    pub net: usize,
+    pub vias: usize,
+    pub edges: usize,
+    pub pins: usize,
+    pub score: u64,
+    /// Its place in the placing order, from 1.
+    pub turn: usize,
+}
+
+impl Report {
+    /// The report of a block, with at most `top` entries in its lists of the most crowded edges and the largest nets.
+    pub fn new(name: &str, block: &Block, top: usize) -> Report {
+        let job = &block.job;
+        Report {
+            job: name.to_string(),
+            width: job.grid.width,
+            height: job.grid.height,
+            tiles: job.grid.tiles(),
+            edges: job.grid.edges(),
+            layers: job.layers,
+            nets: job.nets.len(),
+            pins: job.nets.iter().map(|net| net.pins.len()).sum(),
+            entries: job.entries(),
+            flat_overflow: totals(block.flat_overflow()),
+            layered_overflow: totals(block.layered_overflow()),
+            vias: block.totals.vias,
+            lengths: lengths(block),
+            by_layer: (1..=job.layers).map(|layer| layer_row(block, layer)).collect(),
+            most_crowded: block.most_crowded(top).into_iter().map(|at| crowded_row(block, at)).collect(),
+            vias_by_level: levels(block),
+            vias_of_nets: histogram(&block.net_vias),
+            most_vias: most_vias(block, top),
+        }
+    }
+
+    /// The report as one JSON object.
+    pub fn json(&self) -> String {
+        as_json(self)
+    }
+}
+
+/// A refusal as one JSON object.
+pub fn refusal_json(name: &str, refusal: Refusal, title: &str) -> String {
+    as_json(&serde_json::json!({
+        "job": name,
+        "refused": { "number": refusal.number, "line": refusal.line, "title": title },
+    }))
+}
+
+fn as_json(value: &impl Serialize) -> String {
+    // plain structs of numbers and texts: there is nothing that JSON could not hold
+    serde_json::to_string_pretty(value).unwrap_or_default() + "\n"
+}
+
+fn totals(overflow: Overflow) -> Totals {
+    Totals { total: overflow.total, maximum: overflow.maximum }
+}
+
+fn lengths(block: &Block) -> Lengths {
+    let job = &block.job;
+    let need = need(job.grid, job.layers, job.nets.len(), job.entries());
+    let of = |length: fn(layerplan::Lengths) -> usize| need.map_or(0, length);
+    Lengths { work: of(|l| l.work), order: of(|l| l.order), answer: of(|l| l.answer), print: of(|l| l.print) }
+}
+
+fn layer_row(block: &Block, layer: usize) -> Layer {
+    let mut row = Layer { layer, tracks: 0, used: 0, share: 0.0, full: 0, overflowed: 0, overflow: 0 };
+    for edge in 0..block.job.grid.edges() {
+        let at = Place { layer, edge };
+        let (capacity, used, overflow) = (block.capacity(at), block.used(at), block.overflow(at));
+        row.tracks += capacity;
+        row.used += used;
+        row.overflow += overflow;
+        row.full += usize::from(used == capacity && capacity > 0);
+        row.overflowed += usize::from(overflow > 0);
+    }
+    row.share = part(row.used - row.overflow, row.tracks);
+    row
+}
+
+/// The part that one number is of another, in thousandths; 0 of nothing.
+fn part(some: usize, all: usize) -> f64 {
+    if all == 0 {
+        0.0
+    } else {
+        (1000.0 * some as f64 / all as f64).round() / 1000.0
+    }
+}
+
+fn crowded_row(block: &Block, at: Place) -> Crowded {
+    let pair = |tile: Tile| [tile.x, tile.y];
+    let [from, to] = block.job.grid.ends(at.edge).map(pair);
+    let (capacity, used, overflow) = (block.capacity(at), block.used(at), block.overflow(at));
+    Crowded { layer: at.layer, from, to, capacity, used, overflow }
+}
+
+fn levels(block: &Block) -> Vec<Level> {
+    let level =
+        |(place, tiles): (usize, &Vec<usize>)| Level { lower: place + 1, upper: place + 2, vias: tiles.iter().sum() };
+    block.tile_vias.iter().enumerate().map(level).collect()
+}
+
+/// Buckets 0, 1, 2, 3 to 4, 5 to 8 and so on, up to the last that has a net.
+fn histogram(vias: &[usize]) -> Vec<Bucket> {
+    let Some(largest) = vias.iter().max() else { return Vec::new() };
+    let mut buckets = vec![Bucket { least: 0, most: 0, nets: 0 }];
+    while buckets.last().is_some_and(|last| last.most < *largest) {
+        let most = buckets.last().map_or(0, |last| last.most);
+        buckets.push(Bucket { least: most + 1, most: (2 * most).max(1), nets: 0 });
+    }
+    for vias in vias {
+        if let Some(bucket) = buckets.iter_mut().find(|bucket| *vias <= bucket.most) {
+            bucket.nets += 1;
+        }
+    }
+    buckets
+}
+
+fn most_vias(block: &Block, top: usize) -> Vec<Net> {
+    let turns = block.turns();
+    let mut places: Vec<usize> = (0..block.job.nets.len()).filter(|place| block.net_vias[*place] > 0).collect();
+    places.sort_by_key(|place| (Reverse(block.net_vias[*place]), *place));
+    places.truncate(top);
+    let row = |place: usize| Net {
+        net: place + 1,
+        vias: block.net_vias[place],
+        edges: block.job.nets[place].edges.len(),
+        pins: block.job.nets[place].pins.len(),
+        score: block.order.get(turns[place].wrapping_sub(1)).map_or(0, |entry| entry.score),
+        turn: turns[place],
+    };
+    places.into_iter().map(row).collect()
+}
+
+#[cfg(test)]
+mod tests {
+    use super::*;
+    use crate::planner::Planner;
+
+    fn example() -> Report {
+        let text = include_bytes!("../../../examples/three-tiles.job");
+        let block = crate::figures::plan(&mut Planner::new(), text).unwrap().unwrap();
+        Report::new("three-tiles.job", &block, 10)
+    }
+
+    #[test]
+    fn the_example_in_figures() {
+        let report = example();
+        assert_eq!((report.tiles, report.edges, report.nets, report.entries, report.vias), (3, 2, 2, 3, 2));
+        assert_eq!(report.lengths, Lengths { work: 108, order: 2, answer: 3, print: 390 });
+        let layer =
+            |layer, used, share, full| Layer { layer, tracks: 2, used, share, full, overflowed: 0, overflow: 0 };
+        assert_eq!(report.by_layer, [layer(1, 2, 1.0, 2), layer(2, 1, 0.5, 1)]);
+        assert_eq!(report.vias_by_level, [Level { lower: 1, upper: 2, vias: 2 }]);
+        assert_eq!(report.most_vias, [Net { net: 1, vias: 2, edges: 2, pins: 2, score: 2500, turn: 2 }]);
+        assert_eq!(report.most_crowded.len(), 3);
+    }
+
+    #[test]
+    fn json_has_the_same_figures() {
+        let value: serde_json::Value = serde_json::from_str(&example().json()).unwrap();
+        assert_eq!(value["by_layer"][1]["share"], 0.5);
+        assert_eq!(value["most_vias"][0]["score"], 2500);
+        let refused = refusal_json("a", Refusal { number: 2, line: 7 }, "x");
+        let value: serde_json::Value = serde_json::from_str(&refused).unwrap();
+        assert_eq!(value["refused"]["line"], 7);
+    }
+
+    #[test]
+    fn buckets_double() {
+        let bounds = |vias: &[usize]| histogram(vias).iter().map(|b| (b.least, b.most, b.nets)).collect::<Vec<_>>();
+        assert_eq!(bounds(&[]), []);
+        assert_eq!(bounds(&[0, 0]), [(0, 0, 2)]);
+        assert_eq!(bounds(&[0, 1, 2, 3, 4, 5, 9]), [(0, 0, 1), (1, 1, 1), (2, 2, 1), (3, 4, 2), (5, 8, 1), (9, 16, 1)]);
+    }
+
+    #[test]
+    fn the_table_has_every_part() {
+        for style in [Style { unicode: true }, Style { unicode: false }] {
+            let text = table(&example(), style);
+            for words in ["three-tiles.job", "layer", "most crowded", "level", "vias of a net", "nets with most vias"] {
+                assert!(text.contains(words), "no {words} in\n{text}");
+            }
+            assert_eq!(text.is_ascii(), !style.unicode);
+            assert!(text.lines().all(|line| line == line.trim_end()), "{text}");
+        }
+    }
+}
