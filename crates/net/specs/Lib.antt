@@ -3,3 +3,4 @@ pub mod SoFar
 pub mod Table
 pub mod Checked
 pub mod Left
+pub mod Held

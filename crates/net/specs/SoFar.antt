@@ -15,14 +15,15 @@ use Rattle.model.specs.Plan.{placed}
 pub record Capacities (g : Shape) (j : Job) (w : List ℕ) : Type 0 where
   pub caps : (e l : ℕ) → e < g .e → 1 ≤ l → l ≤ g .k → getD w (e * g .k + (l - 1)) 0 ≡ capacity j e l
 
--- x e l nets are on layer l of edge e; while a net is placed, some of its edges count there already and the others do not yet
-pub record SoFarWith (g : Shape) (j : Job) (x : ℕ → ℕ → ℕ) (w : List ℕ) : Type 0 where
+-- x e l nets are on layer l of edge e, and the overflows of its layers may sum up to o e; while a net is placed, some of its edges count there already
+-- and the others do not yet
+pub record SoFarWith (g : Shape) (j : Job) (o : ℕ → ℕ) (x : ℕ → ℕ → ℕ) (w : List ℕ) : Type 0 where
   pub capacities : Capacities g j w
   -- the nets on each layer
   pub loads : (e l : ℕ) → e < g .e → 1 ≤ l → l ≤ g .k → getD w (loadsAt g + e * g .k + (l - 1)) 0 ≡ x e l
-  -- the overflow left: o(e) less what the layers have used
-  pub left : (e : ℕ) → e < g .e → getD w (demandAt g + e) 0 + sumOver (layersOf j e) (capacity j e) (x e) ≡ flatOverflow j e
+  -- the overflow left: what the layers have not used
+  pub left : (e : ℕ) → e < g .e → getD w (demandAt g + e) 0 + sumOver (layersOf j e) (capacity j e) (x e) ≡ o e
 
--- the nets that have had their turn
+-- the nets that have had their turn, within the flat plan's overflow of each edge
 abbrev pub SoFar : Shape → Job → List (List ℕ) → List ℕ → Type 0
-SoFar g j plan w = SoFarWith g j (placed j plan) w
+SoFar g j plan w = SoFarWith g j (flatOverflow j) (placed j plan) w

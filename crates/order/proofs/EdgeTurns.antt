@@ -16,7 +16,7 @@ use Rattle.model.specs.Read.{Triple, edgeInside}
 use Rattle.net.specs.Left.{EdgesLeft, EdgeNext, EdgesThere, next-room, left-start, last-whole, more-left, more-place}
 use Rattle.net.specs.Table.{EdgesAt}
 use Rattle.scan.specs.Pins.{triple}
-use Rattle.score.specs.declared.Density.{Density}
+use Rattle.order.specs.declared.Density.{Density}
 use Rattle.text.specs.Entries.{edgeEntryAt}
 use Rattle.tracks.specs.FlatPlan.{FlatDemands, FlatCapacities}
 use Rattle.ways.specs.Entry.{edgeOf, placed}

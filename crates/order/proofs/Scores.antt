@@ -14,7 +14,7 @@ use Rattle.model.specs.Read.{Lent}
 use Rattle.model.specs.Score.{lengthTerm, pinTerm, densityTerm, score}
 use Rattle.net.specs.Left.{EdgesThere, edges-there}
 use Rattle.net.specs.Table.{EdgesAt, Row}
-use Rattle.score.specs.declared.Density.{Density}
+use Rattle.order.specs.declared.Density.{Density}
 use Rattle.theory.specs.links.Engine.{edges-few}
 use Rattle.theory.specs.links.Limits.{demands-small}
 use Rattle.theory.specs.links.Nets.{NetOk}

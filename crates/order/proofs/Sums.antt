@@ -11,7 +11,7 @@ use Rattle.layout.specs.declared.Shape.{Shape}
 use Rattle.model.specs.Job.{Net, Job}
 use Rattle.model.specs.Lists.{sum, In}
 use Rattle.model.specs.Overflow.{flatDemand, flatCapacity}
-use Rattle.score.specs.declared.Density.{Density}
+use Rattle.order.specs.declared.Density.{Density}
 use Rattle.theory.specs.congestion.Sums.{same-cases, sum-eq}
 use Rattle.theory.specs.walk.Stops.{occurs-append}
 use Rattle.tracks.specs.FlatPlan.{FlatDemands, FlatCapacities}

@@ -12,7 +12,7 @@ use Rattle.model.specs.Job.{Net, Job}
 use Rattle.model.specs.Lists.{sum}
 use Rattle.model.specs.Overflow.{flatDemand, flatCapacity}
 use Rattle.model.specs.Score.{densityTerm}
-use Rattle.score.specs.declared.Density.{Density}
+use Rattle.order.specs.declared.Density.{Density}
 
 -- d(e) and c(e) as they stand in the working numbers
 abbrev pub demandIn : Shape → List ℕ → ℕ → ℕ

@@ -1,9 +1,8 @@
 // The scores of all nets of an accepted job, each in the net's row of the net table.
 use layout::Shape;
-use score::Density;
 ghost use mathlib.Core.Bool.{true};
 ghost use mathlib.Core.Path.{_≡_};
-ghost use Prim.Native.Nat.{suc, _^_, _<_, _≤_};
+ghost use Prim.Native.Nat.{suc, _+_, _^_, _<_, _≤_};
 ghost use lib.ListN.{length, getD};
 ghost use Rattle.layout.specs.Areas.{tilesAt};
 ghost use Rattle.layout.specs.Shapes.{Shaped};
@@ -25,6 +24,37 @@ pub struct Weights {
     pub beta: u64,
     pub gamma: u64,
 }
+
+// D and C of a net: the sums of d(e) and c(e) over its edges.
+pub struct Density {
+    pub demand: u64,
+    pub capacity: u64,
+}
+
+// ---- the score of a net from its numbers
+
+// "A zero divisor counts as 1."
+fn floor_of(n: u64, d: u64) -> u64
+    ensures { λ r. ⌜ r ≡ scores.quotient n d ⌝ }
+    ensures { λ r. ⌜ r ≤ n ⌝ }
+{
+    if d == 0 {
+        return n;
+    }
+    n / d
+}
+
+// "Score = floor(1000 × alpha / L) + 1000 × beta × P + floor(1000 × gamma × D / C)"
+fn score(a: Weights, edges: u64, pins: u64, x: Density) -> u64
+    requires { ⌜ (a .alpha ≤ 255) × (a .beta ≤ 255) × (a .gamma ≤ 255) × (pins ≤ 1048576) × (x .demand ≤ 4294967296) ⌝ }
+    ensures { λ r. ⌜ r ≡ scores.lengthTerm (a .alpha) edges + scores.pinTerm (a .beta) pins + scores.densityTerm (a .gamma) (x .demand) (x .capacity) ⌝ }
+{
+    floor_of(1000 * a.alpha, edges)
+        + 1000 * a.beta * pins
+        + floor_of(1000 * a.gamma * x.demand, x.capacity)
+}
+
+// ---- D and C
 
 // The number of the edge that an entry inside the grid names.
 fn edge_of(g: Shape, x: usize, y: usize, d: usize) -> usize
@@ -92,7 +122,7 @@ fn entries_density(s: &[u8], at: usize, w: &[u32], g: Shape) -> Density
 }
 
 // D and C over the edges of the line at `at`, which may be empty.
-fn density(s: &[u8], at: usize, w: &[u32], g: Shape) -> Density
+fn net_density(s: &[u8], at: usize, w: &[u32], g: Shape) -> Density
     requires { ⌜ Shaped g ⌝ }
     requires { ⌜ tilesAt g ≤ length (now w) ⌝ }
     requires { ⌜ EdgesThere (now s) g at ⌝ }
@@ -120,7 +150,7 @@ fn weighed_density(s: &[u8], at: usize, w: &[u32], g: Shape, gamma: u64) -> Dens
             capacity: 0,
         };
     }
-    density(s, at, w, g)
+    net_density(s, at, w, g)
 }
 
 // The score of net i, counted from 0.
@@ -134,7 +164,7 @@ fn net_score(s: &[u8], w: &[u32], g: Shape, a: Weights, table: &[u32], i: usize)
     let edges = wide(table[layout::count_column(i)]);
     let pins = wide(table[layout::entries_column(i)]);
     let x = weighed_density(s, at, w, g, a.gamma);
-    score::score(a.alpha, a.beta, a.gamma, edges, pins, x)
+    score(a, edges, pins, x)
 }
 
 // The scores of the n nets, each in the net's row of the table.

@@ -15,7 +15,7 @@ use Rattle.model.specs.Read.{Lent}
 use Rattle.net.specs.AtHand.{tilesOf}
 use Rattle.net.specs.SoFar.{SoFar}
 use Rattle.net.specs.Table.{Table, TurnsIn}
-use Rattle.print.specs.Held.{Held}
+use Rattle.net.specs.Held.{Held}
 use Rattle.theory.specs.links.Reading.{Accepted}
 use Rattle.turn.specs.Turn.{Turn, OfJob, turnLimit, turnLayers, turnPlan, turnVias}
 use Rattle.placing.specs.declared.NetRow.{NetRow}

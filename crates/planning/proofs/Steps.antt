@@ -23,7 +23,8 @@ use Rattle.net.specs.Table.{PinCounts}
 use Rattle.order.specs.Ready.{Ready, SomeJob, Scored, ready-checked}
 use Rattle.order.specs.declared.Weights.{Weights}
 use Rattle.placing.specs.Turns.{Start}
-use Rattle.print.specs.Held.{Held, Handed, plan-rows, plan-text, plan-fits, plan-overwrites}
+use Rattle.net.specs.Held.{Held}
+use Rattle.print.specs.Handed.{Handed, plan-rows, plan-text, plan-fits, plan-overwrites}
 use Rattle.print.specs.Texts.{planText, Rows}
 use Rattle.reader.specs.Whole.{JobFound}
 use Rattle.theory.specs.links.Limits.{demand-small, capacity-small, maximum-small}

@@ -9,7 +9,7 @@ use lib.ListN.{length, take, drop, getD, length-append}
 use Rattle.layout.specs.Table.{firstColumn, countColumn, viasColumn}
 use Rattle.model.specs.Print.{printNet}
 use Rattle.print.specs.Texts.{rowText, netsText, nets-more, nets-done}
-use Rattle.print.specs.Wrote.{Wrote, Left, left-start, left-then, left-as, left-done}
+use Rattle.put.specs.Wrote.{Wrote, Left, left-start, left-then, left-as, left-done}
 
 -- the number at a place of the table that is known by another name
 pub same-place : (table : List ℕ) (i k : ℕ) → i ≡ k → getD table i 0 ≡ getD table k 0

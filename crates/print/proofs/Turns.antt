@@ -7,10 +7,10 @@ use native.Mathlib.Omega.{arith}
 use lib.ListN.{length, drop, getD}
 use Rattle.layout.specs.Table.{turnColumn}
 use Rattle.model.specs.Text.{decimal, decimals}
-use Rattle.print.specs.Lists.{others}
+use Rattle.put.specs.Lists.{others}
 use Rattle.print.specs.Texts.{turnsOf, turns-long, turns-at}
-use Rattle.print.specs.Wrote.{Wrote, Left, wrote-as}
-use Rattle.print.proofs.Steps as steps
+use Rattle.put.specs.Wrote.{Wrote, Left, wrote-as}
+use Rattle.put.proofs.Steps as steps
 
 module _ (table : List ℕ) (n : ℕ) where
   pub turns-none : n ≡ 0 → (a : ℕ) (w : List ℕ) → Wrote a (decimals (turnsOf table n)) w w a

@@ -1,5 +1,3 @@
-pub mod Wrote
-pub mod Lists
 pub mod Texts
 pub mod Refusal
-pub mod Held
+pub mod Handed

@@ -8,11 +8,7 @@ use lib.ListN.{length, length-append}
 use Rattle.model.specs.Calls.{refusal}
 use Rattle.model.specs.Program.{written}
 use Rattle.model.specs.Text.{bytes, decimal}
-use Rattle.theory.specs.links.Room.{decimal-few}
-
--- a number of 64 bits has at most 20 digits
-pub digits-most : (n : ℕ) → n < 2 ^ 64 → length (decimal n) ≤ 20
-digits-most n h = decimal-few 19 n (omega arith)
+use Rattle.put.specs.Lists.{digits-most}
 
 pub refusal-long : (n l : ℕ) → length (written (refusal n l)) ≡ 8 + length (decimal n) + 1 + length (decimal l) + 1
 refusal-long n l =

@@ -12,10 +12,6 @@ use Rattle.model.specs.Lists.{upFrom}
 use Rattle.model.specs.Print.{printLine, printNet, printNets}
 use Rattle.theory.specs.congestion.Base.{length-upFrom}
 
--- a key with its `=`, a text, byte 10
-abbrev pub line : List ℕ → List ℕ → List ℕ
-line key text = key ++ text ++ (10 ∷ [])
-
 -- ---- the nets of the table, counted from 0
 
 -- the vias of net i, and its layers: its stretch of the answer list

@@ -1,4 +1,4 @@
-// The printed plan, or a refusal's line, written into a lent buffer. Every function writes a text from a place on, and returns the place behind it.
+// The printed plan, or a refusal's line, written into a lent buffer.
 ghost use mathlib.Core.List.{[], _∷_};
 ghost use mathlib.Core.Path.{_≡_};
 ghost use Prim.Native.Nat.{_+_, _*_, _≤_, _<_};
@@ -9,98 +9,10 @@ ghost use Rattle.model.specs.Calls.{refusal};
 ghost use Rattle.model.specs.Print.{printLine, printNet};
 ghost use Rattle.model.specs.Program.{written};
 ghost use Rattle.model.specs.Text.{decimal, decimals};
-ghost use Rattle.print.specs.Texts.{line, rowText, netsText, turnsOf, totalsText, planText, RowInside, Rows};
-ghost use Rattle.print.specs.Wrote.{Wrote};
+ghost use Rattle.print.specs.Texts.{rowText, netsText, turnsOf, totalsText, planText, RowInside, Rows};
+ghost use Rattle.put.specs.Wrote.{Wrote};
 
-fn put_byte(b: &mut [u8], at: usize, x: u8) -> usize
-    requires { ⌜ at + 1 ≤ length (now b) ⌝ }
-    ensures { λ r. ⌜ Wrote at (x ∷ []) (now (b .entry)) (now (b .exit)) r ⌝ }
-{
-    b[at] = x;
-    at + 1
-}
-
-fn put_text(b: &mut [u8], at: usize, x: &[u8]) -> usize
-    requires { ⌜ at + length (now x) ≤ length (now b) ⌝ }
-    ensures { λ r. ⌜ Wrote at (now (x .entry)) (now (b .entry)) (now (b .exit)) r ⌝ }
-{
-    for i in 0..x.len() {
-        b[at + i] = x[i];
-    }
-    at + x.len()
-}
-
-// ---- a number in base ten
-
-// How many digits n has: divided off one by one.
-fn digits_divided(n: u64) -> usize
-    ensures { λ r. ⌜ r ≡ length (decimal n) ⌝ }
-{
-    let mut count: usize = 1;
-    let mut left = n;
-    while 10 <= left {
-        left = left / 10;
-        count += 1;
-    }
-    count
-}
-
-// The same: of a number below 10000 by comparing alone.
-fn digits(n: u64) -> usize
-    ensures { λ r. ⌜ r ≡ length (decimal n) ⌝ }
-{
-    if n < 10 {
-        return 1;
-    }
-    if n < 100 {
-        return 2;
-    }
-    if n < 1000 {
-        return 3;
-    }
-    if n < 10000 {
-        return 4;
-    }
-    4 + digits_divided(n / 10000)
-}
-
-// The digits of n, the last one first.
-fn put_digits(b: &mut [u8], at: usize, n: u64) -> usize
-    requires { ⌜ at + length (decimal n) ≤ length (now b) ⌝ }
-    ensures { λ r. ⌜ Wrote at (decimal n) (now (b .entry)) (now (b .exit)) r ⌝ }
-{
-    let end = at + digits(n);
-    let mut i = end;
-    let mut left = n;
-    while 10 <= left {
-        i -= 1;
-        b[i] = 48 + (left % 10) as u8;
-        left = left / 10;
-    }
-    b[at] = 48 + left as u8;
-    end
-}
-
-fn put_number(b: &mut [u8], at: usize, n: u64) -> usize
-    requires { ⌜ at + length (decimal n) ≤ length (now b) ⌝ }
-    ensures { λ r. ⌜ Wrote at (decimal n) (now (b .entry)) (now (b .exit)) r ⌝ }
-{
-    if n < 10 {
-        return put_byte(b, at, 48 + n as u8);
-    }
-    put_digits(b, at, n)
-}
-
-// ---- numbers with commas between
-
-// One more number: a comma before it.
-fn put_next(b: &mut [u8], at: usize, x: u64) -> usize
-    requires { ⌜ at + length (44 ∷ decimal x) ≤ length (now b) ⌝ }
-    ensures { λ r. ⌜ Wrote at (44 ∷ decimal x) (now (b .entry)) (now (b .exit)) r ⌝ }
-{
-    let digit = put_byte(b, at, 44);
-    put_number(b, digit, x)
-}
+// ---- the nets in placing order
 
 // The net whose turn is k, counted from 0, as the net table has it.
 fn turn_of(table: &[u32], k: usize) -> u32
@@ -119,56 +31,34 @@ fn put_turns(b: &mut [u8], from: usize, table: &[u32], n: usize) -> usize
     if n == 0 {
         return from;
     }
-    let mut at = put_number(b, from, turn_of(table, 0) as u64);
+    let mut at = put::number(b, from, turn_of(table, 0) as u64);
     for k in 1..n {
-        at = put_next(b, at, turn_of(table, k) as u64);
+        at = put::next_number(b, at, turn_of(table, k) as u64);
     }
     at
 }
 
-fn put_bytes(b: &mut [u8], from: usize, xs: &[u8]) -> usize
-    requires { ⌜ from + length (decimals (now xs)) ≤ length (now b) ⌝ }
-    ensures { λ r. ⌜ Wrote from (decimals (now (xs .entry))) (now (b .entry)) (now (b .exit)) r ⌝ }
-{
-    if xs.len() == 0 {
-        return from;
-    }
-    let mut at = put_number(b, from, xs[0] as u64);
-    for i in 1..xs.len() {
-        at = put_next(b, at, xs[i] as u64);
-    }
-    at
-}
-
-// ---- lines, each ended by byte 10
-
-// A line with one number; the key comes with its `=`.
-fn put_line(b: &mut [u8], at: usize, key: &[u8], n: u64) -> usize
-    requires { ⌜ at + length (line (now key) (decimal n)) ≤ length (now b) ⌝ }
-    ensures { λ r. ⌜ Wrote at (line (now (key .entry)) (decimal n)) (now (b .entry)) (now (b .exit)) r ⌝ }
-{
-    let value = put_text(b, at, key);
-    let behind = put_number(b, value, n);
-    put_byte(b, behind, 10)
-}
-
+// The line `order`.
 fn put_order(b: &mut [u8], at: usize, table: &[u32], n: usize) -> usize
     requires { ⌜ (n ≤ 4096) × (6 * n ≤ length (now table)) ⌝ }
     requires { ⌜ at + length (printLine "order" (turnsOf (now table) n)) ≤ length (now b) ⌝ }
     ensures { λ r. ⌜ Wrote at (printLine "order" (turnsOf (now (table .entry)) n)) (now (b .entry)) (now (b .exit)) r ⌝ }
 {
-    let first = put_text(b, at, b"order=");
+    let first = put::text(b, at, b"order=");
     let last = put_turns(b, first, table, n);
-    put_byte(b, last, 10)
+    put::byte(b, last, 10)
 }
 
+// ---- one net
+
+// The line `layers`.
 fn put_layers(b: &mut [u8], at: usize, layers: &[u8]) -> usize
     requires { ⌜ at + length (printLine "layers" (now layers)) ≤ length (now b) ⌝ }
     ensures { λ r. ⌜ Wrote at (printLine "layers" (now (layers .entry))) (now (b .entry)) (now (b .exit)) r ⌝ }
 {
-    let list = put_text(b, at, b"layers=");
-    let done = put_bytes(b, list, layers);
-    put_byte(b, done, 10)
+    let list = put::text(b, at, b"layers=");
+    let done = put::bytes(b, list, layers);
+    put::byte(b, done, 10)
 }
 
 // The three lines of net i.
@@ -176,8 +66,8 @@ fn put_net(b: &mut [u8], at: usize, i: usize, vias: u32, layers: &[u8]) -> usize
     requires { ⌜ at + length (printNet i vias (now layers)) ≤ length (now b) ⌝ }
     ensures { λ r. ⌜ Wrote at (printNet i vias (now (layers .entry))) (now (b .entry)) (now (b .exit)) r ⌝ }
 {
-    let a = put_line(b, at, b"net=", i as u64);
-    let c = put_line(b, a, b"vias=", vias as u64);
+    let a = put::line(b, at, b"net=", i as u64);
+    let c = put::line(b, a, b"vias=", vias as u64);
     put_layers(b, c, layers)
 }
 
@@ -236,9 +126,9 @@ fn put_totals(b: &mut [u8], at: usize, vias: u64, total: u64, most: u64) -> usiz
     requires { ⌜ at + length (totalsText vias total most) ≤ length (now b) ⌝ }
     ensures { λ r. ⌜ Wrote at (totalsText vias total most) (now (b .entry)) (now (b .exit)) r ⌝ }
 {
-    let a = put_line(b, at, b"total_vias=", vias);
-    let c = put_line(b, a, b"total_overflow=", total);
-    put_line(b, c, b"max_overflow=", most)
+    let a = put::line(b, at, b"total_vias=", vias);
+    let c = put::line(b, a, b"total_overflow=", total);
+    put::line(b, c, b"max_overflow=", most)
 }
 
 // The printed plan from place 0 on: the net table has n rows, and in them the nets in placing order.
@@ -267,8 +157,8 @@ pub fn put_refusal(b: &mut [u8], number: usize, line: usize) -> usize
     ensures { λ _. ⌜ now (b .exit) ≡ sets (now (b .entry)) 0 (written (refusal number line)) ⌝ }
     ensures { λ r. ⌜ r ≡ length (written (refusal number line)) ⌝ }
 {
-    let first = put_text(b, 0, b"refused=");
-    let second = put_number(b, first, number as u64);
-    let end = put_next(b, second, line as u64);
-    put_byte(b, end, 10)
+    let first = put::text(b, 0, b"refused=");
+    let second = put::number(b, first, number as u64);
+    let end = put::next_number(b, second, line as u64);
+    put::byte(b, end, 10)
 }

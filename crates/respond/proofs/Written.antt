@@ -15,7 +15,7 @@ use Rattle.planning.specs.declared.Printed.{Printed}
 use Rattle.planning.specs.declared.Printed.the-variants.{Print, Refused}
 use Rattle.planning.specs.declared.Totals.{Totals}
 use Rattle.print.specs.Refusal.{refusal-most}
-use Rattle.print.specs.Wrote.{sets-overwrite}
+use Rattle.put.specs.Wrote.{sets-overwrite}
 use Rattle.sort.specs.Entries.{noEntry}
 use Rattle.sort.specs.Placing.{order-count}
 use Rattle.sort.specs.declared.Entry.{Entry}

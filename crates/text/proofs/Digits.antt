@@ -51,7 +51,7 @@ small v at i h g =
     let k : i - at ≤ 4 = omega arith in
     let p : 10 ^ (i - at) ≤ 10 ^ 4 = pow-le-pow-right (lit< tt) k in omega arith
 
--- the digitRun are the first bytes
+-- the run of digits is the start of the text
 after : (d : Bool) (b : ℕ) (ds rest : List ℕ) → take (length ds) rest ≡ ds → take (length (cond d (b ∷ ds) [])) (b ∷ rest) ≡ cond d (b ∷ ds) []
 after true b ds rest e = ap (λ (l : List ℕ). b ∷ l) e
 after false b ds rest e = refl

@@ -76,7 +76,7 @@ back a c m left s t o l p h k = lt→ltb a (c + roomOf left m) (go (ltb 0 left) 
     go true e = omega arith
     go false e = omega (arith, ltb-false 0 left e)
 
-module _ (g : Shape) (j : Job) (x : ℕ → ℕ → ℕ) (w : List ℕ) (s : SoFarWith g j x w) (layers : g .k ≡ j .layers) (e m l : ℕ) (edge : e < g .e)
+module _ (g : Shape) (j : Job) (o : ℕ → ℕ) (x : ℕ → ℕ → ℕ) (w : List ℕ) (s : SoFarWith g j o x w) (layers : g .k ≡ j .layers) (e m l : ℕ) (edge : e < g .e)
     (low : 1 ≤ l) (high : l ≤ g .k) where
   once : occurs l (layersOf j e) ≡ 1
   once = omega (arith, upFrom-once l 1 (j .layers), in-upFrom l 1 (j .layers) .1 (low, omega arith))
@@ -91,30 +91,30 @@ module _ (g : Shape) (j : Job) (x : ℕ → ℕ → ℕ) (w : List ℕ) (s : SoF
   left = getD w (demandAt g + e) 0
 
   -- a layer is open just where it is legal
-  open-legal : openTo load cap (roomOf left m) ≡ isLegal (layersOf j e) (capacity j e) (x e) m (flatOverflow j e) l
+  open-legal : openTo load cap (roomOf left m) ≡ isLegal (layersOf j e) (capacity j e) (x e) m (o e) l
   open-legal = rw (s .loads e l edge low high, s .capacities .caps e l edge low high) (test-eq _ _ there→ back→)
     where
-      there→ : T (openTo (x e l) (capacity j e l) (roomOf left m)) → T (isLegal (layersOf j e) (capacity j e) (x e) m (flatOverflow j e) l)
-      there→ h = →isLegal (layersOf j e) (capacity j e) (x e) m (flatOverflow j e) l (record {
+      there→ : T (openTo (x e l) (capacity j e l) (roomOf left m)) → T (isLegal (layersOf j e) (capacity j e) (x e) m (o e) l)
+      there→ h = →isLegal (layersOf j e) (capacity j e) (x e) m (o e) l (record {
         there = omega (arith, there (x e l) (capacity j e l) m left h, put-same l (x e));
-        whole = whole (x e l) (capacity j e l) m left _ _ (flatOverflow j e) (s .left e edge) (sum-over-put (layersOf j e) (capacity j e) (x e) l once) h;
+        whole = whole (x e l) (capacity j e l) m left _ _ (o e) (s .left e edge) (sum-over-put (layersOf j e) (capacity j e) (x e) l once) h;
       })
 
-      back→ : T (isLegal (layersOf j e) (capacity j e) (x e) m (flatOverflow j e) l) → T (openTo (x e l) (capacity j e l) (roomOf left m))
+      back→ : T (isLegal (layersOf j e) (capacity j e) (x e) m (o e) l) → T (openTo (x e l) (capacity j e l) (roomOf left m))
       back→ h =
-          let k = isLegal→ (layersOf j e) (capacity j e) (x e) m (flatOverflow j e) l h in
-          back (x e l) (capacity j e l) m left _ _ (flatOverflow j e) (s .left e edge) (sum-over-put (layersOf j e) (capacity j e) (x e) l once)
+          let k = isLegal→ (layersOf j e) (capacity j e) (x e) m (o e) l h in
+          back (x e l) (capacity j e l) m left _ _ (o e) (s .left e edge) (sum-over-put (layersOf j e) (capacity j e) (x e) l once)
           (omega (arith, k .there, put-same l (x e))) (k .whole)
 
   -- bit l − 1 says whether layer l is legal
-  pub legal-bit : bitOf (legalMask g w e m) (l - 1) ≡ isLegal (layersOf j e) (capacity j e) (x e) m (flatOverflow j e) l
+  pub legal-bit : bitOf (legalMask g w e m) (l - 1) ≡ isLegal (layersOf j e) (capacity j e) (x e) m (o e) l
   unfolding legalMask
   legal-bit =
       let z : 0 + (l - 1) ≡ l - 1 = omega arith in
       bits-up (openAt g w e m) 0 (g .k) (l - 1) (omega arith) ∙ ap (openAt g w e m) z ∙ open-legal
 
-  pub bit-legal : bitOf (legalMask g w e m) (l - 1) ≡ true → Legal (layersOf j e) (capacity j e) (x e) m (flatOverflow j e) l
-  bit-legal h = isLegal→ (layersOf j e) (capacity j e) (x e) m (flatOverflow j e) l (subst T (sym h ∙ legal-bit) tt)
+  pub bit-legal : bitOf (legalMask g w e m) (l - 1) ≡ true → Legal (layersOf j e) (capacity j e) (x e) m (o e) l
+  bit-legal h = isLegal→ (layersOf j e) (capacity j e) (x e) m (o e) l (subst T (sym h ∙ legal-bit) tt)
 
 -- a layer is among the legal ones at a turn just where its bit is set
 pub legal-in : (g : Shape) (j : Job) (plan : List (List ℕ)) (w : List ℕ) → SoFar g j plan w → g .k ≡ j .layers → (e l : ℕ) → e < g .e → 1 ≤ l → l ≤ g .k
@@ -122,7 +122,7 @@ pub legal-in : (g : Shape) (j : Job) (plan : List (List ℕ)) (w : List ℕ) →
 unfolding legal
 legal-in g j plan w s layers e l edge low high =
     let k = in-keep (isLegal (layersOf j e) (capacity j e) (placed j plan e) (limit j) (flatOverflow j e)) l (layersOf j e) in
-    let b = legal-bit g j (placed j plan) w s layers e (limit j) l edge low high in (
+    let b = legal-bit g j (flatOverflow j) (placed j plan) w s layers e (limit j) l edge low high in (
       λ h. k .1 (in-upFrom l 1 (j .layers) .1 (low, omega arith), subst T (sym h ∙ b) tt),
       λ i. b ∙ is-true _ (k .0 i .1),
     )

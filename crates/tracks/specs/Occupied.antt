@@ -16,7 +16,7 @@ use Rattle.model.specs.Job.{Job, layersOf, capacity}
 use Rattle.model.specs.Legal.{sumOver, put}
 use Rattle.model.specs.Limits.{mostNets}
 use Rattle.model.specs.Lists.{bit, same, occurs, In}
-use Rattle.model.specs.Overflow.{over, flatOverflow}
+use Rattle.model.specs.Overflow.{over}
 use Rattle.net.specs.SoFar.{Capacities, SoFarWith}
 use Rattle.theory.specs.congestion.Base.{upFrom-once, in-upFrom}
 use Rattle.theory.specs.congestion.Edge.{Legal, put-same, sum-over-put}
@@ -63,8 +63,8 @@ full-fits load cap left h = go (leb cap load) refl
 -- ---- what the numbers are afterwards
 
 -- the working numbers hold the same nets, however they are counted
-pub so-far-same : (g : Shape) (j : Job) (x y : ℕ → ℕ → ℕ) (w : List ℕ) → ((e l : ℕ) → x e l ≡ y e l) → SoFarWith g j x w → SoFarWith g j y w
-so-far-same g j x y w h s = subst (λ (z : ℕ → ℕ → ℕ). SoFarWith g j z w) (fun-ext (λ e. fun-ext (λ l. h e l))) s
+pub so-far-same : (g : Shape) (j : Job) (o : ℕ → ℕ) (x y : ℕ → ℕ → ℕ) (w : List ℕ) → ((e l : ℕ) → x e l ≡ y e l) → SoFarWith g j o x w → SoFarWith g j o y w
+so-far-same g j o x y w h s = subst (λ (z : ℕ → ℕ → ℕ). SoFarWith g j o z w) (fun-ext (λ e. fun-ext (λ l. h e l))) s
 
 module _ (g : Shape) (w : List ℕ) (e l : ℕ) (edge : e < g .e) (low : 1 ≤ l) (high : l ≤ g .k) (room : demandAt g + g .e ≤ length w) where
   -- the nets stand below the overflow left, and the capacities below the nets
@@ -102,8 +102,8 @@ left-next a c left s t o p q h = go (leb c a) refl
     go true e = omega (arith, leb-true c a e)
     go false e = omega (arith, leb-false c a e)
 
-module _ (g : Shape) (j : Job) (x : ℕ → ℕ → ℕ) (w : List ℕ) (s : SoFarWith g j x w) (layers : g .k ≡ j .layers) (e l m : ℕ) (edge : e < g .e) (low : 1 ≤ l)
-    (high : l ≤ g .k) (good : Legal (layersOf j e) (capacity j e) (x e) m (flatOverflow j e) l) where
+module _ (g : Shape) (j : Job) (o : ℕ → ℕ) (x : ℕ → ℕ → ℕ) (w : List ℕ) (s : SoFarWith g j o x w) (layers : g .k ≡ j .layers) (e l m : ℕ) (edge : e < g .e) (low : 1 ≤ l)
+    (high : l ≤ g .k) (good : Legal (layersOf j e) (capacity j e) (x e) m (o e) l) where
   -- the overflows of the edge with one more net on the layer
   more : sumOver (layersOf j e) (capacity j e) (put l (x e)) + over (capacity j e l) (x e l) ≡ sumOver (layersOf j e) (capacity j e) (x e) + over (capacity j e l) (x e l + 1)
   more =
@@ -118,7 +118,7 @@ module _ (g : Shape) (j : Job) (x : ℕ → ℕ → ℕ) (w : List ℕ) (s : SoF
   }
 
   -- and with it the numbers hold one net more there
-  pub occupied-with : demandAt g + g .e ≤ length w → SoFarWith g j (oneMore e l x) (occupied g w e l)
+  pub occupied-with : demandAt g + g .e ≤ length w → SoFarWith g j o (oneMore e l x) (occupied g w e l)
   occupied-with room = record {
     capacities = record {
       caps = λ a b h p q. kept (capPlace g a b) (λ r. omega (arith, edge-room g a h)) (λ r. omega (arith, edge-room g a h)) ∙ s .capacities .caps a b h p q;
@@ -161,14 +161,14 @@ module _ (g : Shape) (j : Job) (x : ℕ → ℕ → ℕ) (w : List ℕ) (s : SoF
       load-at a b h p q (inr c) d = other a b h p q (inl (c .0)) (mark-none a e (same l b) (c .1))
 
       left-at : (a : ℕ) → a < g .e → ((a ≡ e) × (same a e ≡ 1)) ⊎ ((a ≢ e) × (same a e ≡ 0))
-          → getD (occupied g w e l) (demandAt g + a) 0 + sumOver (layersOf j a) (capacity j a) (oneMore e l x a) ≡ flatOverflow j a
+          → getD (occupied g w e l) (demandAt g + a) 0 + sumOver (layersOf j a) (capacity j a) (oneMore e l x a) ≡ o a
       left-at a h (inl c) =
-          subst (λ (n : ℕ). getD (occupied g w e l) (demandAt g + n) 0 + sumOver (layersOf j n) (capacity j n) (oneMore e l x n) ≡ flatOverflow j n) (sym (c .0))
+          subst (λ (n : ℕ). getD (occupied g w e l) (demandAt g + n) 0 + sumOver (layersOf j n) (capacity j n) (oneMore e l x n) ≡ o n) (sym (c .0))
           (omega (
             arith,
             left-here g w e l edge low high room,
             ap₂ (λ (n k : ℕ). getD w (demandAt g + e) 0 - fullOf n k) (s .loads e l edge low high) (s .capacities .caps e l edge low high),
-            left-next (x e l) (capacity j e l) (getD w (demandAt g + e) 0) (sumOver (layersOf j e) (capacity j e) (x e)) (sumOver (layersOf j e) (capacity j e) (put l (x e))) (flatOverflow j e)
+            left-next (x e l) (capacity j e l) (getD w (demandAt g + e) 0) (sumOver (layersOf j e) (capacity j e) (x e)) (sumOver (layersOf j e) (capacity j e) (put l (x e))) (o e)
                 (s .left e edge) more (good .whole),
             sum-eq (λ b. over (capacity j e b) (oneMore e l x e b)) (λ b. over (capacity j e b) (put l (x e) b)) (layersOf j e)
                 (λ b i. let r : oneMore e l x e b ≡ put l (x e) b = omega (arith, mark-one e e (same l b) (same-refl e)) in ap (over (capacity j e b)) r),

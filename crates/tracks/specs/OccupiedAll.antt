@@ -12,12 +12,12 @@ use Rattle.layout.specs.declared.Shape.{Shape}
 use Rattle.model.specs.Job.{Job, layersOf, capacity}
 use Rattle.model.specs.Limits.{mostNets}
 use Rattle.model.specs.Lists.{same, occurs, In}
-use Rattle.model.specs.Overflow.{uses, flatOverflow}
+use Rattle.model.specs.Overflow.{uses}
 use Rattle.net.specs.SoFar.{SoFarWith}
 use Rattle.theory.specs.congestion.Base.{in-upFrom}
 use Rattle.theory.specs.congestion.Edge.{Legal}
 use Rattle.theory.specs.congestion.Loads.{mark-none}
-use Rattle.theory.specs.congestion.Problem.{LegalChoice, place}
+use Rattle.theory.specs.congestion.Problem.{Bounds, LegalWithin, place}
 use Rattle.theory.specs.congestion.Sums.{same-refl, same-ne, in-head, in-tail, in-other}
 use Rattle.theory.specs.links.Flat.{problem}
 use Rattle.tracks.specs.Occupied.{loadPlace, capPlace, occupied, Free, oneMore, so-far-same, others-kept, occupied-long, legal-free, occupied-with}
@@ -107,11 +107,11 @@ all-outside g w (e ∷ es) (b ∷ bs) room t =
 
 -- ---- a legal choice can be placed, and then the working numbers hold the net
 
-module _ (g : Shape) (j : Job) (m : ℕ) (layers : g .k ≡ j .layers) where
+module _ (g : Shape) (j : Job) (m : Bounds) (layers : g .k ≡ j .layers) where
   layer-in : (e b : ℕ) → In b (layersOf j e) → (1 ≤ b) × (b ≤ g .k)
   layer-in e b i = let r = in-upFrom b 1 (j .layers) .0 i in (r .0, omega (arith, r .1))
 
-  pub choice-takes : (x : ℕ → ℕ → ℕ) (w : List ℕ) → SoFarWith g j x w → ((e l : ℕ) → x e l ≤ mostNets) → (es bs : List ℕ) → LegalChoice (problem j) (λ e. m) x es bs
+  pub choice-takes : (x : ℕ → ℕ → ℕ) (w : List ℕ) → SoFarWith g j (m .whole) x w → ((e l : ℕ) → x e l ≤ mostNets) → (es bs : List ℕ) → LegalWithin (problem j) m x es bs
       → ((e : ℕ) → occurs e es ≤ 1) → ((e : ℕ) → In e es → e < g .e) → CanTake g w es bs
   choice-takes x w s few [] [] c once known = tt
   choice-takes x w s few [] (b ∷ bs) c once known = tt
@@ -123,15 +123,15 @@ module _ (g : Shape) (j : Job) (m : ℕ) (layers : g .k ≡ j .layers) where
           edge = h;
           low = k .0;
           high = k .1;
-          free = legal-free g j x w s layers e b m h (k .0) (k .1) (c .1) (few e b);
+          free = legal-free g j (m .whole) x w s layers e b (m .limit e) h (k .0) (k .1) (c .1) (few e b);
           once = omega (arith, once e, same-refl e);
         },
         choice-takes x w s few es bs (c .2) (λ a. omega (arith, once a)) (λ a i. known a (in-tail a e es i)),
       )
 
   -- the choice for other edges is as legal as before
-  others-legal : (x : ℕ → ℕ → ℕ) (e b : ℕ) (es bs : List ℕ) → occurs e es ≡ 0 → LegalChoice (problem j) (λ a. m) x es bs
-      → LegalChoice (problem j) (λ a. m) (oneMore e b x) es bs
+  others-legal : (x : ℕ → ℕ → ℕ) (e b : ℕ) (es bs : List ℕ) → occurs e es ≡ 0 → LegalWithin (problem j) m x es bs
+      → LegalWithin (problem j) m (oneMore e b x) es bs
   others-legal x e b [] [] z c = c
   others-legal x e b [] (d ∷ bs) z c = c
   others-legal x e b (a ∷ es) [] z c = c
@@ -139,19 +139,19 @@ module _ (g : Shape) (j : Job) (m : ℕ) (layers : g .k ≡ j .layers) where
       let n : same a e ≡ 0 = same-ne a e (λ r. in-other e a (a ∷ es) z (in-head a es) (sym r)) in
       let y : x a ≡ oneMore e b x a = fun-ext (λ l. omega (arith, mark-none a e (same b l) n)) in (
         c .0,
-        subst (λ (f : ℕ → ℕ). Legal (layersOf j a) (capacity j a) f m (flatOverflow j a) d) y (c .1),
+        subst (λ (f : ℕ → ℕ). Legal (layersOf j a) (capacity j a) f (m .limit a) (m .whole a) d) y (c .1),
         others-legal x e b es bs (omega arith) (c .2),
       )
 
-  pub choice-occupied : (x : ℕ → ℕ → ℕ) (w : List ℕ) → SoFarWith g j x w → flatAt g ≤ length w → (es bs : List ℕ) → LegalChoice (problem j) (λ e. m) x es bs
-      → ((e : ℕ) → occurs e es ≤ 1) → ((e : ℕ) → In e es → e < g .e) → SoFarWith g j (place x es bs) (occupiedAll g w es bs)
-  choice-occupied x w s room [] [] c once known = so-far-same g j x (place x [] []) w (λ e l. omega arith) s
+  pub choice-occupied : (x : ℕ → ℕ → ℕ) (w : List ℕ) → SoFarWith g j (m .whole) x w → flatAt g ≤ length w → (es bs : List ℕ) → LegalWithin (problem j) m x es bs
+      → ((e : ℕ) → occurs e es ≤ 1) → ((e : ℕ) → In e es → e < g .e) → SoFarWith g j (m .whole) (place x es bs) (occupiedAll g w es bs)
+  choice-occupied x w s room [] [] c once known = so-far-same g j (m .whole) x (place x [] []) w (λ e l. omega arith) s
   choice-occupied x w s room [] (b ∷ bs) c once known = absurd c
   choice-occupied x w s room (e ∷ es) [] c once known = absurd c
   choice-occupied x w s room (e ∷ es) (b ∷ bs) c once known =
       let k = layer-in e b (c .0) in
       let h = known e (in-head e es) in
-      so-far-same g j (place (oneMore e b x) es bs) (place x (e ∷ es) (b ∷ bs)) (occupiedAll g (occupied g w e b) es bs) (λ a l. omega arith)
-      (choice-occupied (oneMore e b x) (occupied g w e b) (occupied-with g j x w s layers e b m h (k .0) (k .1) (c .1) (omega arith))
+      so-far-same g j (m .whole) (place (oneMore e b x) es bs) (place x (e ∷ es) (b ∷ bs)) (occupiedAll g (occupied g w e b) es bs) (λ a l. omega arith)
+      (choice-occupied (oneMore e b x) (occupied g w e b) (occupied-with g j (m .whole) x w s layers e b (m .limit e) h (k .0) (k .1) (c .1) (omega arith))
       (omega (arith, occupied-long g w e b h (k .0) (k .1) (omega arith))) es bs
       (others-legal x e b es bs (omega (arith, once e, same-refl e)) (c .2)) (λ a. omega (arith, once a)) (λ a i. known a (in-tail a e es i)))

@@ -178,7 +178,7 @@ module _ (g : Shape) (shaped : Shaped g) (n : ℕ) (w : List ℕ) (room : areasE
           list = λ i b. whole .low (listAt g + i) (omega (arith, fit)) ∙ h .list i b;
           edges = edges-stand;
           layers = layers-stand;
-          so-far = so-far-low g w w″ (outside-low g (engineAt g) (12 * g .t) w w″ (omega arith) whole) (u .job) _ (h .so-far);
+          so-far = so-far-low g w w″ (outside-low g (engineAt g) (12 * g .t) w w″ (omega arith) whole) (u .job) _ _ (h .so-far);
           older = subst (Older (suc stamp)) (sym (part-outside (engineAt g) (12 * g .t) w w″ whole (tilesAt g) (g .t) (inl (omega arith)))) (h .older);
         },
         placed .net-vias,

@@ -49,7 +49,7 @@ module _ (s : List ℕ) (p q : ℕ) (g : Shape) (shaped : Shaped g) (stamp : ℕ
       ends = walked .ends;
       pins-small = walked .pins-small;
       pins = walked .pins;
-      so-far = so-far-low g w w″ (λ i h. o .low i (omega arith) ∙ read .elsewhere .low i (omega arith)) (u .job) _ (b .so-far);
+      so-far = so-far-low g w w″ (λ i h. o .low i (omega arith) ∙ read .elsewhere .low i (omega arith)) (u .job) _ _ (b .so-far);
       older = subst (Older (suc stamp)) (sym same) (λ t. omega (arith, read .hand .fits t));
     }
       where

@@ -66,7 +66,7 @@ module _ (g : Shape) (shaped : Shaped g) (n : ℕ) (w : List ℕ) (room : areasE
     layers-stand = part-outside (chosenAt g) (2 * g .t) w w′ put-kept (layersAt g + 1) (n - 1) (inr (omega arith)) ∙ h .layers
 
     so-far : SoFar g (u .job) (u .plan) w′
-    so-far = so-far-low g w w′ (outside-low g (chosenAt g) (2 * g .t) w w′ (omega arith) put-kept) (u .job) _ (h .so-far)
+    so-far = so-far-low g w w′ (outside-low g (chosenAt g) (2 * g .t) w w′ (omega arith) put-kept) (u .job) _ _ (h .so-far)
 
     takes-walk : CanTake g w′ (turnWalk u) (walkLayers u)
     takes-walk = turn-takes (u .lent) (u .job) (u .accepted) (u .entry) (u .rest) (u .plan) (u .midway) g (h .grid .layers) (edges-are u g shaped (h .grid)) w′ so-far

@@ -29,8 +29,8 @@ bits-same f h a (suc n) e =
     ap₂ (λ (b : Bool) (m : ℕ). bit b + 2 * m) (e a (omega arith) (omega arith)) (bits-same f h (suc a) n (λ i p q. e i (omega arith) (omega arith)))
 
 module _ (g : Shape) (w w′ : List ℕ) (same : SameLow g w w′) where
-  pub so-far-low : (j : Job) (x : ℕ → ℕ → ℕ) → SoFarWith g j x w → SoFarWith g j x w′
-  so-far-low j x s = record {
+  pub so-far-low : (j : Job) (o : ℕ → ℕ) (x : ℕ → ℕ → ℕ) → SoFarWith g j o x w → SoFarWith g j o x w′
+  so-far-low j o x s = record {
     capacities = record { caps = λ e l h a b. same (e * g .k + (l - 1)) (omega (arith, edge-room g e h)) ∙ s .capacities .caps e l h a b };
     loads = λ e l h a b. same (loadsAt g + e * g .k + (l - 1)) (omega (arith, edge-room g e h)) ∙ s .loads e l h a b;
     left = λ e h. omega (arith, same (demandAt g + e) (omega arith), s .left e h);

@@ -12,7 +12,7 @@ returns c = λ j n at demands capacities. subst (λ (k : ℕ). Weighed k j n (re
 
 returns-2 : tie.Need-returns-2
 returns-2 c =
-    let d = c .density in
+    let d = c .net-density in
     λ j n at demands capacities. weighed-sums (c .before .before .before .before .args .gamma) j n (d .result) (d .ensures j n at demands capacities)
 
 pub weighed-density-spec : {M : Type 1} → statement M

@@ -3,7 +3,7 @@
 use mathlib.Core.List.{[], _∷_}
 use borrow.Author.Needs.{needs}
 use Rattle.model.specs.Text.{bytes, decimals}
-use Rattle.print.specs.Wrote.{room-one, room-two, room-three, wrote-then}
+use Rattle.put.specs.Wrote.{room-one, room-two, room-three, wrote-then}
 use Rattle.print.proofs.put_layers.Statement.{statement}
 use Rattle.print.proofs.put_layers.Tie as tie
 
@@ -15,8 +15,8 @@ put-layers-spec =
     (λ c κs. let s = c .before .before .before .before in
     room-one (s .args .at) (bytes "layers=") (decimals (s .args .layers .now)) (10 ∷ []) (s .args .b .now) (s .pre))
     (λ c κs. let s = c .before .before .before .before .before .before .before .before in
-    room-two (s .args .at) (bytes "layers=") (decimals (s .args .layers .now)) (10 ∷ []) (s .args .b .now) (s .pre) (c .before .before .before .put-text .ensures))
+    room-two (s .args .at) (bytes "layers=") (decimals (s .args .layers .now)) (10 ∷ []) (s .args .b .now) (s .pre) (c .before .before .before .text .ensures))
     (λ c κs. let s = c .before .before .before .before .before .before .before .before .before .before .before .before in
-    room-three (s .args .at) (bytes "layers=") (decimals (s .args .layers .now)) (10 ∷ []) (s .args .b .now) (s .pre) (c .before .before .before .before .before .before .before .put-text .ensures) (c .before .before .before .put-bytes .ensures))
+    room-three (s .args .at) (bytes "layers=") (decimals (s .args .layers .now)) (10 ∷ []) (s .args .b .now) (s .pre) (c .before .before .before .before .before .before .before .text .ensures) (c .before .before .before .bytes .ensures))
     (λ c. search needs)
-    (λ c. wrote-then (wrote-then (c .before .before .before .before .before .before .before .before .before .before .put-text .ensures) (c .before .before .before .before .before .before .put-bytes .ensures)) (c .before .before .put-byte .ensures)))
+    (λ c. wrote-then (wrote-then (c .before .before .before .before .before .before .before .before .before .before .text .ensures) (c .before .before .before .before .before .before .bytes .ensures)) (c .before .before .byte .ensures)))

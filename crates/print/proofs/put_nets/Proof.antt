@@ -4,7 +4,7 @@ use Prim.Native.Nat.{_-_, _≤_, _<_}
 use native.Mathlib.Omega.{arith}
 use borrow.Author.Needs.{needs}
 use Rattle.print.specs.Texts.{netsText}
-use Rattle.print.specs.Wrote.{Left}
+use Rattle.put.specs.Wrote.{Left}
 use Rattle.print.proofs.Nets.{nets-start, net-room, net-more, nets-end}
 use Rattle.print.proofs.put_nets.Statement.{statement}
 use Rattle.print.proofs.put_nets.Tie as tie

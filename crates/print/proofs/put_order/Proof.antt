@@ -4,7 +4,7 @@ use mathlib.Core.List.{[], _∷_}
 use borrow.Author.Needs.{needs}
 use Rattle.model.specs.Text.{bytes, decimals}
 use Rattle.print.specs.Texts.{turnsOf}
-use Rattle.print.specs.Wrote.{room-one, room-two, room-three, wrote-then}
+use Rattle.put.specs.Wrote.{room-one, room-two, room-three, wrote-then}
 use Rattle.print.proofs.put_order.Statement.{statement}
 use Rattle.print.proofs.put_order.Tie as tie
 
@@ -16,8 +16,8 @@ put-order-spec =
     (λ c κs. let s = c .before .before .before .before in
     room-one (s .args .at) (bytes "order=") (decimals (turnsOf (s .args .table .now) (s .args .n))) (10 ∷ []) (s .args .b .now) (s .pre .1))
     (λ c κs. let s = c .before .before .before .before .before .before .before .before in
-    (s .pre .0, room-two (s .args .at) (bytes "order=") (decimals (turnsOf (s .args .table .now) (s .args .n))) (10 ∷ []) (s .args .b .now) (s .pre .1) (c .before .before .before .put-text .ensures)))
+    (s .pre .0, room-two (s .args .at) (bytes "order=") (decimals (turnsOf (s .args .table .now) (s .args .n))) (10 ∷ []) (s .args .b .now) (s .pre .1) (c .before .before .before .text .ensures)))
     (λ c κs. let s = c .before .before .before .before .before .before .before .before .before .before .before .before in
-    room-three (s .args .at) (bytes "order=") (decimals (turnsOf (s .args .table .now) (s .args .n))) (10 ∷ []) (s .args .b .now) (s .pre .1) (c .before .before .before .before .before .before .before .put-text .ensures) (c .before .before .before .put-turns .ensures))
+    room-three (s .args .at) (bytes "order=") (decimals (turnsOf (s .args .table .now) (s .args .n))) (10 ∷ []) (s .args .b .now) (s .pre .1) (c .before .before .before .before .before .before .before .text .ensures) (c .before .before .before .put-turns .ensures))
     (λ c. search needs)
-    (λ c. wrote-then (wrote-then (c .before .before .before .before .before .before .before .before .before .before .put-text .ensures) (c .before .before .before .before .before .before .put-turns .ensures)) (c .before .before .put-byte .ensures)))
+    (λ c. wrote-then (wrote-then (c .before .before .before .before .before .before .before .before .before .before .text .ensures) (c .before .before .before .before .before .before .put-turns .ensures)) (c .before .before .byte .ensures)))

@@ -4,7 +4,7 @@ use native.Mathlib.Omega.{arith}
 use borrow.Author.Needs.{needs}
 use Rattle.model.specs.Print.{printLine}
 use Rattle.print.specs.Texts.{netsText, turnsOf, rows-turns, totalsText}
-use Rattle.print.specs.Wrote.{room-one, room-two, room-three, wrote-then, from-start}
+use Rattle.put.specs.Wrote.{room-one, room-two, room-three, wrote-then, from-start}
 use Rattle.print.proofs.put_plan.Statement.{statement}
 use Rattle.print.proofs.put_plan.Tie as tie
 

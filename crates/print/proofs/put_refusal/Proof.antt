@@ -3,7 +3,7 @@
 use native.Mathlib.Omega.{arith}
 use borrow.Author.Needs.{needs}
 use Rattle.print.specs.Refusal.{refusal-long}
-use Rattle.print.specs.Wrote.{wrote-then, from-start}
+use Rattle.put.specs.Wrote.{wrote-then, from-start}
 use Rattle.print.proofs.put_refusal.Statement.{statement}
 use Rattle.print.proofs.put_refusal.Tie as tie
 
@@ -20,4 +20,4 @@ put-refusal-spec =
     omega (arith, s .pre, c .before .before .before .before .before .before .before .before .before .before .before, refusal-long (s .args .number) (s .args .line)))
     (λ c. search needs)
     (λ c. from-start
-    (wrote-then (wrote-then (c .before .before .before .before .before .before .before .before .before .before .before .before .before .before .put-text .ensures) (wrote-then (c .before .before .before .before .before .before .before .before .before .before .put-number .ensures) (c .before .before .before .before .before .before .put-next .ensures))) (c .before .before .put-byte .ensures))))
+    (wrote-then (wrote-then (c .before .before .before .before .before .before .before .before .before .before .before .before .before .before .text .ensures) (wrote-then (c .before .before .before .before .before .before .before .before .before .before .number .ensures) (c .before .before .before .before .before .before .next-number .ensures))) (c .before .before .byte .ensures))))

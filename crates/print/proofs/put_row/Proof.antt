@@ -2,7 +2,7 @@
 -- Assumes nothing.
 use lib.ListN.{length}
 use borrow.Author.Needs.{needs}
-use Rattle.print.specs.Wrote.{wrote-as}
+use Rattle.put.specs.Wrote.{wrote-as}
 use Rattle.print.proofs.Nets.{row-is, row-room}
 use Rattle.print.proofs.put_row.Statement.{statement}
 use Rattle.print.proofs.put_row.Tie as tie

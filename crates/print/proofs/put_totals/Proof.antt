@@ -3,7 +3,7 @@
 use mathlib.Core.List.{[], _∷_}
 use borrow.Author.Needs.{needs}
 use Rattle.model.specs.Print.{printLine}
-use Rattle.print.specs.Wrote.{room-one, room-two, room-three, wrote-then}
+use Rattle.put.specs.Wrote.{room-one, room-two, room-three, wrote-then}
 use Rattle.print.proofs.put_totals.Statement.{statement}
 use Rattle.print.proofs.put_totals.Tie as tie
 
@@ -16,9 +16,9 @@ put-totals-spec =
     room-one (s .args .at) (printLine "total_vias" (s .args .vias ∷ [])) (printLine "total_overflow" (s .args .total ∷ [])) (printLine "max_overflow" (s .args .most ∷ [])) (s .args .b .now) (s .pre))
     (λ c. search needs)
     (λ c κs. let s = c .before .before .before .before .before .before .before .before in
-    room-two (s .args .at) (printLine "total_vias" (s .args .vias ∷ [])) (printLine "total_overflow" (s .args .total ∷ [])) (printLine "max_overflow" (s .args .most ∷ [])) (s .args .b .now) (s .pre) (c .before .before .before .before .put-line .ensures))
+    room-two (s .args .at) (printLine "total_vias" (s .args .vias ∷ [])) (printLine "total_overflow" (s .args .total ∷ [])) (printLine "max_overflow" (s .args .most ∷ [])) (s .args .b .now) (s .pre) (c .before .before .before .before .line .ensures))
     (λ c. search needs)
     (λ c κs. let s = c .before .before .before .before .before .before .before .before .before .before .before .before .before in
-    room-three (s .args .at) (printLine "total_vias" (s .args .vias ∷ [])) (printLine "total_overflow" (s .args .total ∷ [])) (printLine "max_overflow" (s .args .most ∷ [])) (s .args .b .now) (s .pre) (c .before .before .before .before .before .before .before .before .before .put-line .ensures) (c .before .before .before .before .put-line2 .ensures))
+    room-three (s .args .at) (printLine "total_vias" (s .args .vias ∷ [])) (printLine "total_overflow" (s .args .total ∷ [])) (printLine "max_overflow" (s .args .most ∷ [])) (s .args .b .now) (s .pre) (c .before .before .before .before .before .before .before .before .before .line .ensures) (c .before .before .before .before .line2 .ensures))
     (λ c. search needs)
-    (λ c. wrote-then (wrote-then (c .before .before .before .before .before .before .before .before .before .before .before .before .put-line .ensures) (c .before .before .before .before .before .before .before .put-line2 .ensures)) (c .before .before .put-line3 .ensures)))
+    (λ c. wrote-then (wrote-then (c .before .before .before .before .before .before .before .before .before .before .before .before .line .ensures) (c .before .before .before .before .before .before .before .line2 .ensures)) (c .before .before .line3 .ensures)))

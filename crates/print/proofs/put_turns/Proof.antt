@@ -5,9 +5,9 @@ use Prim.Native.Nat.{_+_, _-_, _≤_, _<_}
 use native.Mathlib.Omega.{arith}
 use lib.ListN.{length, drop}
 use borrow.Author.Needs.{needs}
-use Rattle.print.specs.Lists.{others}
+use Rattle.put.specs.Lists.{others}
 use Rattle.print.specs.Texts.{turnsOf}
-use Rattle.print.specs.Wrote.{Left, wrote-long, left-start}
+use Rattle.put.specs.Wrote.{Left, wrote-long, left-start}
 use Rattle.print.proofs.Turns.{turns-none, turn-room, turn-more, first-room, others-room, turns-whole, turns-end}
 use Rattle.print.proofs.put_turns.Statement.{statement}
 use Rattle.print.proofs.put_turns.Tie as tie
@@ -19,8 +19,8 @@ Inv-loop b₀ from table n at₀ k₀ b at k =
 abbrev μ-loop : tie.MeasureT-loop
 μ-loop b₀ from table n at₀ k₀ b at k = n - k
 
-put-number-requires : tie.Need-put-number-requires Inv-loop μ-loop
-put-number-requires c κs =
+number-requires : tie.Need-number-requires Inv-loop μ-loop
+number-requires c κs =
     let s = c .before .before .before .before .before in
     first-room (s .args .table .now) (s .args .n) (c .turn-of .result) (omega arith) (c .turn-of .ensures) (s .args .from) (s .args .b .now) (s .pre .1)
 
@@ -30,12 +30,12 @@ loop-holds c =
     let t = p .before in
     let s = t .before .before .before .before .before in (
       omega arith,
-      others-room (s .args .table .now) (s .args .n) (t .turn-of .result) (omega arith) (t .turn-of .ensures) (p .put-number .ensures) (s .pre .1),
+      others-room (s .args .table .now) (s .args .n) (t .turn-of .result) (omega arith) (t .turn-of .ensures) (p .number .ensures) (s .pre .1),
       left-start _ _ _,
     )
 
-put-next-requires : tie.Need-put-next-requires Inv-loop μ-loop
-put-next-requires c κs =
+next-number-requires : tie.Need-next-number-requires Inv-loop μ-loop
+next-number-requires c κs =
     let l = c .before .before .before in
     let s = l .before .before .before .before .before .before .before .before .before in
     turn-room (s .args .table .now) (s .args .n) (l .loop .k) (c .turn-of2 .result) (omega arith) (c .turn-of2 .ensures) (l .loop .inv .2) (l .loop .inv .1)
@@ -49,7 +49,7 @@ loop-again c =
     let h : l .loop .k < s .args .n = omega arith in (
       omega arith,
       l .loop .inv .1,
-      turn-more (s .args .table .now) (s .args .n) (l .loop .k) (t .turn-of2 .result) h (t .turn-of2 .ensures) (l .loop .inv .2) (p .put-next .ensures),
+      turn-more (s .args .table .now) (s .args .n) (l .loop .k) (t .turn-of2 .result) h (t .turn-of2 .ensures) (l .loop .inv .2) (p .next-number .ensures),
     )
 
 returns-2 : tie.Need-returns-2 Inv-loop μ-loop
@@ -58,7 +58,7 @@ returns-2 c =
     let p = l .before .before .before in
     let t = p .before in
     let s = t .before .before .before .before .before in
-    turns-whole (s .args .table .now) (s .args .n) (t .turn-of .result) (omega arith) (t .turn-of .ensures) (p .put-number .ensures)
+    turns-whole (s .args .table .now) (s .args .n) (t .turn-of .result) (omega arith) (t .turn-of .ensures) (p .number .ensures)
     (turns-end (s .args .table .now) (s .args .n) (l .loop .k) (omega arith) (l .loop .inv .2))
 
 pub put-turns-spec : {M : Type 1} → statement M
@@ -70,13 +70,13 @@ put-turns-spec =
     turns-none (s .args .table .now) (s .args .n) (c .if1 .taken) (s .args .from) (s .args .b .now))
     (λ c κs. omega arith)
     (λ c. search needs)
-    put-number-requires
+    number-requires
     loop-holds
     (λ c κs. omega arith)
     (λ c. search needs)
-    put-next-requires
+    next-number-requires
     (λ c. omega arith)
     (λ c. omega arith)
     loop-again
-    (λ c. c .before .loop .inv .2 .long ∙ wrote-long (c .before .before .before .before .put-number .ensures))
+    (λ c. c .before .loop .inv .2 .long ∙ wrote-long (c .before .before .before .before .number .ensures))
     returns-2)

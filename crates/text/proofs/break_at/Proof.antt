@@ -1,3 +1,5 @@
+-- `break_at` meets its contract.
+-- Assumes nothing.
 use lib.ListN.{List·getD-eq-default}
 use borrow.Author.Needs.{needs}
 use Rattle.text.proofs.break_at.Statement.{statement}

@@ -1,3 +1,6 @@
+-- `key_at` meets its contract: a loop over the key.
+-- The invariant: the key starts the text at this place just where what is left of it starts what is left of the text.
+-- Assumes nothing.
 use native.Mathlib.Nat.{add-zero}
 use Rattle.text.proofs.Prefix.{key-more, key-differs, key-short, key-all}
 use mathlib.Core.Path.{_≡_, refl, sym, ap, _∙_}

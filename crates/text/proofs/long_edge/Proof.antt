@@ -1,3 +1,5 @@
+-- `long_edge` meets its contract.
+-- Assumes nothing.
 use mathlib.Core.Path.{sym, _∙_}
 use Rattle.text.specs.Entries.{edgeEntryAt}
 use borrow.Author.Needs.{needs}

@@ -1,3 +1,5 @@
+-- `number` meets its contract.
+-- Assumes nothing.
 use mathlib.Core.Logic.{⊎-elim}
 use Rattle.text.proofs.Digits.{within, few, many, padded, good}
 use native.Mathlib.Omega.{arith}

@@ -1,3 +1,6 @@
+-- `past_digits` meets its contract: a loop over digits.
+-- The invariant: the digits found so far and the run of digits from here on make the run from `at` on; what is left of the text falls.
+-- Assumes nothing.
 use mathlib.Core.Path.{_≡_, refl, ap, sym, _∙_}
 use Prim.Native.Nat.{_+_, _-_}
 use borrow.Author.Tests.{not-true, not-false}

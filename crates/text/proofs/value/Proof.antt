@@ -1,3 +1,6 @@
+-- `value` meets its contract: a loop over the digits.
+-- The invariant: the value so far and the digits that are left spell the whole. As no digit is above 207, v + 23 grows at most tenfold (10 × 23 = 23 + 207), so five digits do not overflow.
+-- Assumes nothing.
 use mathlib.Core.Path.{_≡_, refl, sym, _∙_, ap}
 use Prim.Native.Nat.{_+_, _-_, _*_, _^_, _≤_}
 use native.Mathlib.Nat.{sub-self}

@@ -1,3 +1,5 @@
+-- `with_comma` meets its contract.
+-- Assumes nothing.
 use mathlib.Core.Path.{sym, _∙_}
 use Rattle.text.proofs.Commas.{comma-bad, comma-out, comma-good, comma-other}
 use borrow.Author.Needs.{needs}

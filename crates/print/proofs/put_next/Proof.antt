@@ -1,9 +1,0 @@
--- `put_next` meets its contract.
--- Assumes nothing.
-use borrow.Author.Needs.{needs}
-use Rattle.print.proofs.Steps.{comma-then}
-use Rattle.print.proofs.put_next.Statement.{statement}
-use Rattle.print.proofs.put_next.Tie as tie
-
-pub put-next-spec : {M : Type 1} → statement M
-put-next-spec = tie.close (tie.spec (λ c κs. search needs) (λ c κs. search needs) (λ c. search needs) (λ c. search (comma-then, needs)))
