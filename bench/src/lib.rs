@@ -4,6 +4,9 @@
 //! - `proved`: the proved planner, from its static library.
 //! - `plain`: the paper's algorithm written plainly.
 //! - `optimised`: a planner written for speed.
+//!
+//! The last two follow only what jobs without optional lines need, and end with a message where they meet such a line
+//! (`no_optional_lines`). What follows every change is the second implementation, `tests/second`.
 
 pub mod jobs;
 pub mod optimised;
@@ -31,6 +34,27 @@ pub struct Lent<'a> {
     pub order: &'a mut [Entry],
     pub answer: &'a mut [u8],
     pub print: Option<&'a mut [u8]>,
+}
+
+/// The keys of lines that a job may have or not (document 02).
+const OPTIONAL: [&str; 3] = ["dirs=", "viacost=", "low="];
+
+/// The plain and the optimised planner follow only what jobs without optional lines need. Where they, or what lends to
+/// them, would have to do with such a line, this says so and ends: their answer would be that of another job.
+fn no_optional_lines(text: &[u8]) {
+    for line in text.split(|byte| *byte == 10) {
+        if let Some(key) = OPTIONAL.iter().find(|key| line.starts_with(key.as_bytes())) {
+            panic!("the planners of the bench know no optional lines, and this job has one: {key}");
+        }
+    }
+}
+
+/// What the plain and the optimised planner return for a text that they refuse. They read no optional line, so a text
+/// with one always comes here.
+#[cold]
+fn refused(text: &[u8], number: u64, line: u64) -> Returned {
+    no_optional_lines(text);
+    Returned { number, line, ..Returned::default() }
 }
 
 /// A planner.
@@ -64,6 +88,7 @@ pub struct Buffers {
 impl Buffers {
     /// Buffers with just the lengths that Print needs for an accepted job.
     pub fn needed(text: &[u8]) -> Buffers {
+        no_optional_lines(text);
         let value = |line: &[u8]| {
             std::str::from_utf8(&line[line.iter().position(|b| *b == b'=').unwrap() + 1..])
                 .unwrap()

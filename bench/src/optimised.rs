@@ -5,7 +5,7 @@
 //! An edge has the number 2 × tile, or 2 × tile + 1 for north, which leaves a few numbers unused and takes no division.
 //! Places are not tested where the reading has shown that they are inside; a build with debug assertions tests them all.
 
-use crate::{Lent, Returned};
+use crate::{refused, Lent, Returned};
 
 struct Refusal(u64, u64);
 
@@ -178,7 +178,7 @@ impl Reader<'_> {
         Err(Refusal(number, self.line))
     }
 
-    /// The next line begins with this key.
+    /// The next line begins with this key. An optional line has another, and is not for this planner: `refused`.
     #[inline(always)]
     fn key(&mut self, key: &[u8]) -> Result<(), Refusal> {
         self.line += 1;
@@ -836,7 +836,7 @@ pub fn optimised_call(text: &[u8], lent: Lent) -> Returned {
     let Lent { work, order, answer, print } = lent;
     let returned = match run(text, Lent { work, order, answer, print }) {
         Ok(returned) => returned,
-        Err(Refusal(number, line)) => Returned { number, line, ..Returned::default() },
+        Err(Refusal(number, line)) => refused(text, number, line),
     };
     work.fill(0);
     returned

@@ -2,7 +2,7 @@
 //! walked and gets, from the last tile to the first, for each layer above a tile the cheapest of all combinations of its
 //! branches' layers (up to K × K × K of them for each of K layers).
 
-use crate::{Lent, Returned};
+use crate::{refused, Lent, Returned};
 use second::plan::Entry;
 
 struct Refusal(u64, u64);
@@ -112,7 +112,7 @@ fn parts(entry: &[u8]) -> Option<[&[u8]; 3]> {
 }
 
 impl<'a> Reader<'a> {
-    /// The value of the next line, if it has this key.
+    /// The value of the next line, if it has this key. An optional line has another, and is not for this planner: `refused`.
     fn value(&mut self, key: &[u8]) -> Result<&'a [u8], Refusal> {
         self.line += 1;
         let rest = &self.text[self.at..];
@@ -452,6 +452,6 @@ pub fn plain_call(text: &[u8], lent: Lent) -> Returned {
     lent.work.fill(0);
     match read(text, lent.work.len(), lent.order.len(), lent.answer.len(), lent.print.as_ref().map(|print| print.len())) {
         Ok(job) => plan(&job, lent),
-        Err(Refusal(number, line)) => Returned { number, line, ..Returned::default() },
+        Err(Refusal(number, line)) => refused(text, number, line),
     }
 }

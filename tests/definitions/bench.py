@@ -1,12 +1,12 @@
 """Texts whose outcome document 01 itself gives, in its bench jobs or by its words on what comes first.
 
-They hold reference.py to document 01 and are then checked like all other texts. `said` is what document 01 says of the outcome: a
+They hold tests/second to document 01 and are then checked like all other texts. `said` is what document 01 says of the outcome: a
 refusal as (number, line), or the fields of an accepted outcome that it names.
 """
 
 from collections import namedtuple
 
-from reference import PROGRAM_LENT, Lent
+from second import PROGRAM_LENT, Lent
 
 Bench = namedtuple("Bench", "name text lent said")
 

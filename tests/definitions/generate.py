@@ -8,7 +8,7 @@ import re
 from collections import namedtuple
 
 from bench import BENCH, C1, ROOMY, header_lines, net_lines, text_of
-from reference import MOST_BYTES, MOST_INPUT, PROGRAM_LENT, Lent, working_need
+from second import MOST_BYTES, MOST_INPUT, PROGRAM_LENT, Lent
 
 # `kind` says how the text was made. `text` is the whole text; or, where `length` is a number, the start of any text of that
 # length.
@@ -80,6 +80,12 @@ def border_cases():
 
 
 # ---- small random jobs
+
+def working_need(width, height, layers):
+    """How many working numbers are needed: "2 × K × E + 2 × E + 32 × T of them"."""
+    edges = (width - 1) * height + width * (height - 1)
+    return 2 * layers * edges + 2 * edges + 32 * width * height
+
 
 class Draft:
     """A job while it is made: its numbers, and for each net its pins (x, y, layer) and its edges (x, y, way)."""

@@ -7,7 +7,7 @@ import re
 import shutil
 from collections import namedtuple
 
-from reference import Refusal, east_edges, north_edges
+from second import Refusal
 
 # The definitions that the rows name, by module of crates/model/specs.
 NAMES = {
@@ -51,7 +51,7 @@ use lib.ListN.{length}
 # Rows of one file: a file is checked as a whole, and a failing row is named alone.
 ROWS_PER_FILE = 100
 
-# A row: the name of its lemma, the case that it is about, the call in SHAPES, and what the reference gives for it, as a value of
+# A row: the name of its lemma, the case that it is about, the call in SHAPES, and what tests/second gives for it, as a value of
 # Python and as a term. `value` is a Refusal, an Accepted, the program's text, or the walks.
 Row = namedtuple("Row", "name case call value term")
 
@@ -90,12 +90,6 @@ def walks_term(walks):
     return list_term([list_term(walk) for walk in walks])
 
 
-def edge_numbers(job):
-    """The model's numbers of the edges: the place in the `east` list followed by the `north` list."""
-    edges = east_edges(job.width, job.height) + north_edges(job.width, job.height)
-    return {edge: number for number, edge in enumerate(edges)}
-
-
 # ---- rows
 
 def outcome_row(number, case, result):
@@ -106,9 +100,8 @@ def program_row(number, case, text):
     return Row(f"program-{number}", case, "program", text, text_term(text.encode()))
 
 
-def walks_row(number, case, job, walks):
-    numbers = edge_numbers(job)
-    walks = [[numbers[edge] for edge in walk] for walk in walks]
+def walks_row(number, case, walks):
+    """The model and tests/second have the same numbers of the edges: the place in the `east` list followed by the `north` list."""
     return Row(f"walks-{number}", case, "walks", walks, walks_term(walks))
 
 

@@ -18,6 +18,20 @@ pub struct Returned {
     pub length: u64,
 }
 
+impl Returned {
+    /// What a call returns for an accepted job with this plan; the printed text has this length.
+    pub fn of(plan: &Plan, length: usize) -> Returned {
+        Returned {
+            number: 0,
+            line: 0,
+            vias: plan.total_vias,
+            total: plan.total_overflow,
+            maximum: plan.max_overflow,
+            length: length as u64,
+        }
+    }
+}
+
 /// A planner: the two calls over borrowed buffers.
 pub trait Planner {
     fn plan(&self, text: &[u8], work: &mut [u32], order: &mut [Entry], answer: &mut [u8]) -> Returned;
@@ -81,16 +95,9 @@ fn call(
     if let Some(print) = print {
         let printed = plan::print(&plan);
         print[..printed.len()].copy_from_slice(printed.as_bytes());
-        length = printed.len() as u64;
+        length = printed.len();
     }
-    Returned {
-        number: 0,
-        line: 0,
-        vias: plan.total_vias,
-        total: plan.total_overflow,
-        maximum: plan.max_overflow,
-        length,
-    }
+    Returned::of(&plan, length)
 }
 
 /// One set of lent buffers.
@@ -137,9 +144,7 @@ pub fn held(
     match expected {
         Err(Refusal { number, line }) => (wanted_return.number, wanted_return.line) = (*number, *line),
         Ok(plan) => {
-            wanted_return.vias = plan.total_vias;
-            wanted_return.total = plan.total_overflow;
-            wanted_return.maximum = plan.max_overflow;
+            wanted_return = Returned::of(plan, 0);
             wanted.order.splice(..plan.order.len(), plan.order.iter().copied());
             let layers = plan.layers.concat();
             wanted.answer.splice(..layers.len(), layers);

@@ -6,6 +6,9 @@ use std::ops::RangeInclusive;
 /// The longest text that is read, in bytes.
 pub const TEXT_LIMIT: usize = 1_048_576;
 
+/// The highest number in the table of refusals.
+pub const LAST_REFUSAL: usize = 11;
+
 /// A refusal: its number in the table of document 01, and the line.
 #[derive(Clone, Copy, PartialEq, Eq, Debug)]
 pub struct Refusal {

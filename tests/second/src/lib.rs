@@ -7,8 +7,10 @@
 //! - `check`: what can be checked of a plan of any size, with another method than the planner's.
 //! - `brute`: demand 3 over all layerings of all nets, for tiny jobs.
 //! - `gen`: jobs, damaged texts and lent lengths by seed.
-//! - `run`: many drawn jobs, each checked.
+//! - `run`: all checks of a plan; many drawn jobs, each checked.
+//! - `ask`: the answers to many texts, for programs in other languages.
 
+pub mod ask;
 pub mod brute;
 pub mod calls;
 pub mod check;

@@ -1,7 +1,9 @@
 //! `second plan FILE`: the print of a job, or its refusal (`-` for standard input).
 //! `second gen SEED KIND`: a job text; KIND is a shape, `any`, or either with a damage, as in `tiny/flip`.
 //! `second self SEED COUNT`: draws COUNT jobs, checks each, and prints a summary.
+//! `second answer`: answers the questions on standard input, a line for each (`ask`).
 
+use second::ask::answer_all;
 use second::calls::{Planner, Second};
 use second::gen::{draw, DAMAGES, KINDS};
 use second::plan::Entry;
@@ -32,7 +34,7 @@ fn plan(file: &str) -> std::io::Result<Vec<u8>> {
 
 fn usage() -> ! {
     let names = |list: Vec<&str>| list.join(" ");
-    eprintln!("second plan FILE | second gen SEED KIND | second self SEED COUNT");
+    eprintln!("second plan FILE | second gen SEED KIND | second self SEED COUNT | second answer");
     eprintln!("kinds: any {}", names(KINDS.iter().map(|(name, _)| *name).collect()));
     eprintln!("each with /DAMAGE: {}", names(DAMAGES.iter().map(|(name, _)| *name).collect()));
     exit(2)
@@ -70,6 +72,13 @@ fn main() {
             }
             print!("{summary}");
             println!("all passed");
+            return;
+        }
+        ["answer"] => {
+            if let Err(fault) = answer_all(std::io::stdin().lock(), std::io::stdout().lock()) {
+                eprintln!("second answer: {fault}");
+                exit(1);
+            }
             return;
         }
         _ => usage(),

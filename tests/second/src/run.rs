@@ -1,15 +1,37 @@
 //! Many drawn jobs, each checked: the reading against what is known of the text, both calls with their effect on every
 //! lent buffer, the plan by `check`, and on tiny jobs by `brute`.
 
-use crate::calls::{answer, held, Planner};
+use crate::calls::{answer, held, Planner, Returned};
 use crate::gen::{draw, Drawn};
-use crate::job::{read, Lengths};
-use crate::plan::walk;
+use crate::job::{read, Job, Lengths, LAST_REFUSAL};
+use crate::plan::{print, walk, Plan};
 use crate::{brute, check};
 use std::fmt;
 
-/// The most layerings that are looked at one by one.
+/// A job is tiny if it has at most so many layerings and nets: then all its layerings are looked at one by one.
 pub const BRUTE_MOST: u64 = 40_000;
+pub const BRUTE_MOST_NETS: usize = 20;
+
+/// All checks of the plan of an accepted job: `check`, the length of its print, and on a tiny job `brute`. Returns how
+/// many layerings were looked at, where the job is tiny.
+pub fn checked(job: &Job, plan: &Plan) -> Result<Option<u64>, String> {
+    check::check(job, plan)?;
+    let printed = print(plan).len();
+    if job.need().print.is_some_and(|need| printed > need) {
+        return Err(format!("the print has {printed} bytes, more than the print buffer that is asked for"));
+    }
+    if brute::layerings(job, BRUTE_MOST).is_none() || job.nets.len() > BRUTE_MOST_NETS {
+        return Ok(None);
+    }
+    let layerings = brute::check(job, &plan.order, &plan.layers.concat(), &Returned::of(plan, printed))?;
+    for net in &job.nets {
+        let edges = brute::walk_order(job, net).into_iter().map(|place| net.edges[place]);
+        if !edges.eq(walk(job.grid, net).iter().filter_map(|step| step.edge)) {
+            return Err("the walk is not in the order of the ways to its tiles".to_string());
+        }
+    }
+    Ok(Some(layerings))
+}
 
 /// The figures of a run.
 #[derive(Default)]
@@ -18,7 +40,7 @@ pub struct Summary {
     pub calls: u64,
     pub accepted: u64,
     /// By refusal number: jobs on which Print gave it.
-    pub refused: [u64; 12],
+    pub refused: [u64; LAST_REFUSAL + 1],
     pub damaged: u64,
     pub full: u64,
     pub largest_text: usize,
@@ -34,7 +56,7 @@ impl fmt::Display for Summary {
     fn fmt(&self, out: &mut fmt::Formatter) -> fmt::Result {
         writeln!(out, "jobs={} damaged={} calls={}", self.jobs, self.damaged, self.calls)?;
         writeln!(out, "accepted={} of_these_with_overflow={}", self.accepted, self.with_overflow)?;
-        let refused: Vec<String> = (1..=11).map(|n| format!("{n}:{}", self.refused[n])).collect();
+        let refused: Vec<String> = (1..=LAST_REFUSAL).map(|n| format!("{n}:{}", self.refused[n])).collect();
         writeln!(out, "refused {}", refused.join(" "))?;
         write!(out, "largest accepted: text={} nets={}", self.largest_text, self.most_nets)?;
         writeln!(out, " edges={} vias={}; texts of the full length: {}", self.most_edges, self.most_vias, self.full)?;
@@ -79,7 +101,10 @@ impl Summary {
             let Ok(plan) = expected else { continue };
 
             let job = &read(text, lent).map_err(|refusal| format!("{refusal:?} after an accepted call"))?;
-            check::check(job, &plan)?;
+            if let Some(layerings) = checked(job, &plan)? {
+                self.brute += 1;
+                self.layerings += layerings;
+            }
             self.accepted += 1;
             self.with_overflow += u64::from(plan.total_overflow > 0);
             self.full += u64::from(text.len() == crate::job::TEXT_LIMIT);
@@ -87,16 +112,6 @@ impl Summary {
             self.most_nets = self.most_nets.max(job.nets.len());
             self.most_edges = self.most_edges.max(job.entries());
             self.most_vias = self.most_vias.max(plan.total_vias);
-            if brute::layerings(job, BRUTE_MOST).is_some() && job.nets.len() <= 20 {
-                self.layerings += brute::check(job, &plan.order, &plan.layers.concat(), &returned)?;
-                for net in &job.nets {
-                    let edges = brute::walk_order(job, net).into_iter().map(|place| net.edges[place]);
-                    if !edges.eq(walk(job.grid, net).iter().filter_map(|step| step.edge)) {
-                        return Err("the walk is not in the order of the ways to its tiles".to_string());
-                    }
-                }
-                self.brute += 1;
-            }
         }
         Ok(())
     }

@@ -1,5 +1,6 @@
 //! The worked cases of document 01, and what its table and its terms say of single lines.
 
+use second::ask::answer_all;
 use second::brute;
 use second::calls::{answer, held, Buffers, Planner, Returned, Second};
 use second::check;
@@ -236,6 +237,34 @@ fn lent_lengths() {
     assert_eq!(refusal(&format!("{C1}x"), Lengths { order: 2, ..lists }), (2, 18));
     assert_eq!(refusal(C1, Lengths { order: 2, ..lists }), (11, 17));
     assert_eq!(refusal(&"\n".repeat(TEXT_LIMIT + 1), nothing), (1, 0));
+}
+
+#[test]
+fn questions_and_answers() {
+    let asked = |questions: &str| {
+        let mut answers = Vec::new();
+        answer_all(questions.as_bytes(), &mut answers).map(|()| String::from_utf8(answers).unwrap())
+    };
+    let c1 = format!("{}\n{C1}", C1.len());
+    let told = asked(&format!("108 2 3 - {c1}108 2 3 389 {c1}0 0 0 0 0\n")).unwrap();
+    let lines: Vec<&str> = told.lines().collect();
+    let accepted = concat!(
+        r#"{"order": [[2, 3000], [1, 2500]], "plan": [[2, 1], [1]], "walks": [[0, 1], [0]], "vias": 2, "total": 0, "#,
+        r#""maximum": 0, "text": "order=2,1\nnet=1\nvias=2\nlayers=2,1\nnet=2\nvias=0\nlayers=1\n"#,
+        r#"total_vias=2\ntotal_overflow=0\nmax_overflow=0\n", "brute": true}"#
+    );
+    assert_eq!(lines, [accepted, r#"{"number": 11, "line": 17}"#, r#"{"number": 2, "line": 1}"#]);
+
+    // 2 to the 16th layerings are not looked at one by one
+    let edges: Vec<String> = (0..16).map(|x| format!("{x},0,e")).collect();
+    let tracks = ["1"; 16].join(",");
+    let row = text([17, 1, 2], [1; 3], &[(tracks.as_str(), ""); 2], &[("0,0,1", &edges.join(";"))]);
+    assert!(asked(&format!("999 1 16 - {}\n{row}", row.len())).unwrap().ends_with("\"brute\": false}\n"));
+
+    assert_eq!(asked("").unwrap(), "");
+    for wrong in ["\n", "1 2 3 4\n", "1 2 3 x 0\n", "- 2 3 4 0\n", "1 2 3 4 5 6\n", "1 2 3 4 5\nfour"] {
+        assert!(asked(wrong).is_err(), "{wrong}");
+    }
 }
 
 #[test]
