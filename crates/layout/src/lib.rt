@@ -4,7 +4,7 @@ ghost use Prim.Native.Nat.{ℕ, _+_, _-_, _*_, _<_, _≤_};
 ghost use Rattle.model.specs.Read.{workingNeed};
 ghost use Rattle.layout.specs.Shapes.{stackOf, shapeOf, Shaped, wayOf, WayRoom};
 ghost use Rattle.layout.specs.Areas.{loadsAt, demandAt, flatAt, tilesAt, linksAt, chosenAt, listAt, stopsAt, aboveAt, engineAt};
-ghost use lib.ListN.{length};
+ghost use lib.ListN.{length, replicate};
 ghost use Rattle.layout.specs.Table.{pinsColumn, edgesColumn, entriesColumn, turnColumn, firstColumn, countColumn, viasColumn, tableSize, scoreIn, scorePut};
 
 // K layers. "Limits belong to the stack".
@@ -112,6 +112,15 @@ pub fn loads_at(g: Shape) -> usize
     ensures { λ r. ⌜ r ≤ 64512 ⌝ }
 {
     g.k * g.e
+}
+
+// Where the K numbers of an edge start, in the capacities, and from there on in the loads.
+pub fn edge_at(g: Shape, edge: usize) -> usize
+    requires { ⌜ Shaped g ⌝ }
+    requires { ⌜ edge < g .e ⌝ }
+    ensures { λ r. ⌜ (r ≡ edge * g .k) × (r + g .k ≤ loadsAt g) ⌝ }
+{
+    edge * g.k
 }
 
 // The flat demand of each edge; while nets are placed, the overflow that the edge has left.
@@ -290,4 +299,17 @@ pub fn put_score(table: &mut [u32], i: usize, v: u64)
 {
     table[entries_column(i)] = (v % 4294967296) as u32;
     table[vias_column(i)] = (v / 4294967296) as u32;
+}
+
+// ---- all of them
+
+// Zeroes the whole slice.
+pub fn clear(w: &mut [u32])
+    ensures { λ _. ⌜ now (w .exit) ≡ replicate (length (now (w .entry))) 0 ⌝ }
+{
+    let mut i = 0;
+    while i < w.len() {
+        w[i] = 0;
+        i += 1;
+    }
 }

@@ -1,5 +1,6 @@
 pub mod AtHand
 pub mod SoFar
+pub mod Places
 pub mod Table
 pub mod Checked
 pub mod Left

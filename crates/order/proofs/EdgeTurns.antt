@@ -18,7 +18,7 @@ use Rattle.net.specs.Table.{EdgesAt}
 use Rattle.scan.specs.Pins.{triple}
 use Rattle.order.specs.declared.Density.{Density}
 use Rattle.text.specs.Entries.{edgeEntryAt}
-use Rattle.tracks.specs.FlatPlan.{FlatDemands, FlatCapacities}
+use Rattle.flat.specs.FlatPlan.{FlatDemands, FlatCapacities}
 use Rattle.ways.specs.Entry.{edgeOf, placed}
 use Rattle.order.specs.Density.{Added, DensityOf}
 use Rattle.order.proofs.Sums.{Sums, sums-none, sums-more, sums-job}

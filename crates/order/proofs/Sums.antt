@@ -14,7 +14,7 @@ use Rattle.model.specs.Overflow.{flatDemand, flatCapacity}
 use Rattle.order.specs.declared.Density.{Density}
 use Rattle.theory.specs.congestion.Sums.{same-cases, sum-eq}
 use Rattle.theory.specs.walk.Stops.{occurs-append}
-use Rattle.tracks.specs.FlatPlan.{FlatDemands, FlatCapacities}
+use Rattle.flat.specs.FlatPlan.{FlatDemands, FlatCapacities}
 use Rattle.order.specs.Density.{demandIn, capacityIn, Added, DensityOf}
 
 -- v is the sums over the edges es of the grid, and they fit

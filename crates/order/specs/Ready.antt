@@ -15,7 +15,7 @@ use Rattle.model.specs.Score.{score}
 use Rattle.net.specs.Checked.{Checked}
 use Rattle.net.specs.Table.{Table, PinCounts}
 use Rattle.theory.specs.links.Reading.{Accepted}
-use Rattle.tracks.specs.FlatPlan.{FlatDemands, FlatCapacities}
+use Rattle.flat.specs.FlatPlan.{FlatDemands, FlatCapacities}
 use Rattle.order.specs.declared.Weights.{Weights}
 
 -- job j is accepted; the text s, the shape, the weights, the working numbers and the net table are its own

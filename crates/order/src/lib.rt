@@ -13,7 +13,7 @@ ghost use Rattle.model.specs.Score as scores;
 ghost use Rattle.net.specs.Left.{EdgesThere};
 ghost use Rattle.net.specs.Table.{EdgesAt, PinCounts};
 ghost use Rattle.scan.specs.Pins.{triple};
-ghost use Rattle.tracks.specs.FlatPlan.{FlatDemands, FlatCapacities};
+ghost use Rattle.flat.specs.FlatPlan.{FlatDemands, FlatCapacities};
 ghost use Rattle.ways.specs.Entry.{edgeOf};
 ghost use Rattle.order.specs.Density.{Added, DensityOf, Weighed};
 ghost use Rattle.order.specs.Ready.{Ready, SomeJob, SomeNet, Scored};

@@ -30,9 +30,9 @@ use Rattle.reader.specs.Whole.{JobFound}
 use Rattle.theory.specs.links.Limits.{demand-small, capacity-small, maximum-small}
 use Rattle.theory.specs.links.Planned.{plan-meets, plan-maximum}
 use Rattle.theory.specs.links.Reading.{Accepted, accepted}
-use Rattle.tracks.specs.FlatPlan.{FlatCapacities, FlatDemands, Overflows, so-far-first}
-use Rattle.tracks.specs.Places.{SmallCapacities, small-capacities}
-use Rattle.tracks.specs.declared.Flat.{Flat}
+use Rattle.flat.specs.FlatPlan.{FlatCapacities, FlatDemands, Overflows, so-far-first}
+use Rattle.net.specs.Places.{SmallCapacities, small-capacities}
+use Rattle.flat.specs.declared.Flat.{Flat}
 use Rattle.turn.specs.Turn.{of-job}
 use Rattle.planning.specs.Closing.{Turned, PlanMade, PrintMade}
 use Rattle.planning.specs.Opening.{Given, OpenFound}

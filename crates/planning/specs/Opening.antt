@@ -15,7 +15,7 @@ use Rattle.net.specs.AtHand.{tilesOf}
 use Rattle.net.specs.SoFar.{Capacities}
 use Rattle.order.specs.Ready.{Scored}
 use Rattle.theory.specs.links.Reading.{Accepted}
-use Rattle.tracks.specs.FlatPlan.{FlatCapacities, FlatDemands, NoLoads}
+use Rattle.flat.specs.FlatPlan.{FlatCapacities, FlatDemands, NoLoads}
 use Rattle.planning.specs.declared.Opened.{Opened}
 use Rattle.planning.specs.declared.Opened.the-variants.{Job as Read-as, Refused}
 

@@ -68,7 +68,7 @@ fn open_job(
     match reader::read_job(s, w, table, order, answer, print) {
         JobRead::Refused(r) => Opened::Refused(r),
         JobRead::Job(h, _) => {
-            tracks::flat_capacities(w, h.shape);
+            flat::flat_capacities(w, h.shape);
             order::score_nets(s, w, h.shape, weights_of(h), table, h.nets);
             Opened::Job(h)
         }
@@ -116,8 +116,8 @@ fn place_nets(s: &[u8], h: Head, w: &mut [u32], table: &mut [u32], answer: &mut 
     ensures { λ r. ⌜ ((lent : Lent) (j : Job) → Turned (now (s .entry)) h (now (w .entry)) (now (table .entry)) (length (now (answer .entry))) lent j → PlanMade j (now (answer .entry)) (now (answer .exit)) (now (table .exit)) r) ⌝ }
     ensures { λ _. ⌜ length (now (w .exit)) ≡ length (now (w .entry)) ⌝ }
 {
-    let flat = tracks::overflows(w, h.shape);
-    let limit = tracks::limit_of(flat.most, h.shape.k);
+    let flat = flat::overflows(w, h.shape);
+    let limit = flat::limit_of(flat.most, h.shape.k);
     let vias = placing::place_all(s, w, h.shape, table, h.nets, limit, answer);
     Totals {
         vias,
@@ -150,7 +150,7 @@ pub fn close_plan(
     ensures { λ _. ⌜ now (w .exit) ≡ replicate (length (now (w .entry))) 0 ⌝ }
 {
     let r = plan_opened(s, w, table, answer, o);
-    tracks::clear(w);
+    layout::clear(w);
     r
 }
 
@@ -204,6 +204,6 @@ pub fn close_print(
     ensures { λ _. ⌜ now (w .exit) ≡ replicate (length (now (w .entry))) 0 ⌝ }
 {
     let r = print_opened(s, w, table, answer, out, o);
-    tracks::clear(w);
+    layout::clear(w);
     r
 }

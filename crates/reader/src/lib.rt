@@ -262,7 +262,7 @@ fn clear_part(w: &mut [u32], from: usize, to: usize)
     requires { ⌜ (from ≤ to) × (to ≤ length (now w)) ⌝ }
     ensures { λ _. ⌜ PartCleared from to (now (w .entry)) (now (w .exit)) ⌝ }
 {
-    tracks::clear(&mut w[from..to]);
+    layout::clear(&mut w[from..to]);
 }
 
 // Zeroes what the nets are counted and marked in: the nets on each layer, d(e), and what is kept by tile.

@@ -13,7 +13,7 @@ use Rattle.model.specs.Limits.{mostNets}
 use Rattle.tracks.specs.Legal.{roomOf, openIn, legalMask, mask-small}
 use Rattle.tracks.specs.Masks.{bitsUp}
 use Rattle.tracks.specs.Occupied.{fullOf, loadPlace, capPlace, occupied, Free, full-fits}
-use Rattle.tracks.specs.Places.{SmallCapacities}
+use Rattle.net.specs.Places.{SmallCapacities}
 
 pub room-small : (left m : ℕ) → roomOf left m ≤ m
 room-small left m = go (ltb 0 left)

@@ -1,4 +1,3 @@
-mod Fill
 mod Turns
 mod Layers
 mod Occupying

@@ -1,5 +1,3 @@
-pub mod Places
-pub mod FlatPlan
 pub mod Masks
 pub mod Legal
 pub mod Occupied

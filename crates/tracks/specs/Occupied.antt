@@ -22,7 +22,7 @@ use Rattle.theory.specs.congestion.Base.{upFrom-once, in-upFrom}
 use Rattle.theory.specs.congestion.Edge.{Legal, put-same, sum-over-put}
 use Rattle.theory.specs.congestion.Loads.{mark-one, mark-none}
 use Rattle.theory.specs.congestion.Sums.{same-cases, same-refl, sum-eq}
-use Rattle.tracks.specs.Places.{edge-room, apart}
+use Rattle.net.specs.Places.{edge-room, apart}
 
 -- 1 where a layer is full
 abbrev pub fullOf : ℕ → ℕ → ℕ

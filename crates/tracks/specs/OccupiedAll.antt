@@ -21,7 +21,7 @@ use Rattle.theory.specs.congestion.Problem.{Bounds, LegalWithin, place}
 use Rattle.theory.specs.congestion.Sums.{same-refl, same-ne, in-head, in-tail, in-other}
 use Rattle.theory.specs.links.Flat.{problem}
 use Rattle.tracks.specs.Occupied.{loadPlace, capPlace, occupied, Free, oneMore, so-far-same, others-kept, occupied-long, legal-free, occupied-with}
-use Rattle.tracks.specs.Places.{edge-room, apart}
+use Rattle.net.specs.Places.{edge-room, apart}
 
 -- by walk place: the layer of the edge above it
 abbrev pub layersAt : Shape → ℕ

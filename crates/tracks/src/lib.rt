@@ -1,130 +1,17 @@
-// Nets and capacities on the layers of each edge, in the working numbers: the flat plan's overflow, the legal layers of an edge, and one more net on a
-// layer.
+// Nets and capacities on the layers of each edge, in the working numbers: the legal layers of an edge, and one more net on a layer.
 use layout::Shape;
 ghost use mathlib.Core.Path.{_≡_};
 ghost use mathlib.Core.Bool.{cond};
-ghost use Prim.Native.Nat.{ℕ, _+_, _-_, _*_, _^_, _<_, _≤_, max};
-ghost use lib.ListN.{length, getD, replicate};
-ghost use Rattle.layout.specs.Areas.{loadsAt, demandAt, flatAt, tilesAt, areasEnd};
-ghost use Rattle.layout.specs.Parts.{Outside};
+ghost use Prim.Native.Nat.{ℕ, _+_, _-_, _*_, _^_, _<_, _≤_};
+ghost use lib.ListN.{length, getD};
+ghost use Rattle.layout.specs.Areas.{flatAt, areasEnd};
 ghost use Rattle.layout.specs.Shapes.{Shaped};
-ghost use Rattle.model.specs.Job.{Job, edgeCount};
-ghost use Rattle.model.specs.Limits.{mostLayers, mostCapacity, mostNets};
-ghost use Rattle.model.specs.Overflow.{over, ceilDiv};
-ghost use Rattle.net.specs.SoFar.{Capacities};
-ghost use Rattle.tracks.specs.Places.{SmallCapacities};
-ghost use Rattle.tracks.specs.FlatPlan.{FlatCapacities, FlatDemands, Overflows, sumAt, capacitySum};
+ghost use Rattle.model.specs.Limits.{mostLayers, mostNets};
+ghost use Rattle.net.specs.Places.{SmallCapacities};
 ghost use Rattle.tracks.specs.Legal.{roomOf, openTo, openIn, legalMask};
 ghost use Rattle.tracks.specs.Masks.{bitsUp};
 ghost use Rattle.tracks.specs.Occupied.{fullOf, occupied, Free};
 ghost use Rattle.tracks.specs.OccupiedAll.{edgesOf, layersIn, occupiedAll, CanTake};
-
-// TO and MO of the flat plan.
-pub struct Flat {
-    pub total: u64,
-    pub most: u32,
-}
-
-// Where the K numbers of an edge start, in the capacities, and from there on in the loads.
-fn edge_at(g: Shape, edge: usize) -> usize
-    requires { ⌜ Shaped g ⌝ }
-    requires { ⌜ edge < g .e ⌝ }
-    ensures { λ r. ⌜ (r ≡ edge * g .k) × (r + g .k ≤ loadsAt g) ⌝ }
-{
-    edge * g.k
-}
-
-// The sum of k capacities from `at` on.
-fn sum_of(w: &[u32], at: usize, k: usize) -> u32
-    requires { ⌜ (at + k ≤ length (now w)) × (k ≤ mostLayers) ⌝ }
-    requires { ⌜ ((l : ℕ) → l < k → getD (now w) (at + l) 0 ≤ mostCapacity) ⌝ }
-    ensures { λ r. ⌜ r ≡ sumAt at k (now (w .entry)) ⌝ }
-{
-    let mut sum = 0u32;
-    for l in 0..k {
-        sum += w[at + l];
-    }
-    sum
-}
-
-// The sum of an edge's K capacities.
-fn edge_capacity(w: &[u32], g: Shape, edge: usize) -> u32
-    requires { ⌜ Shaped g ⌝ }
-    requires { ⌜ (edge < g .e) × (loadsAt g ≤ length (now w)) ⌝ }
-    requires { ⌜ SmallCapacities g (now w) ⌝ }
-    ensures { λ r. ⌜ r ≡ capacitySum g (now (w .entry)) edge ⌝ }
-{
-    let at = edge_at(g, edge);
-    // a sum of known length is laid out flat by the compiler
-    if g.k == 8 {
-        return sum_of(w, at, 8);
-    }
-    sum_of(w, at, g.k)
-}
-
-// Puts c(e), the sum of the edge's K capacities, in its place for each edge.
-pub fn flat_capacities(w: &mut [u32], g: Shape)
-    requires { ⌜ Shaped g ⌝ }
-    requires { ⌜ tilesAt g ≤ length (now w) ⌝ }
-    requires { ⌜ SmallCapacities g (now w) ⌝ }
-    ensures { λ _. ⌜ ((j : Job) → Capacities g j (now (w .entry)) → g .k ≡ j .layers → FlatCapacities g j (now (w .exit))) ⌝ }
-    ensures { λ _. ⌜ Outside (flatAt g) (g .e) (now (w .entry)) (now (w .exit)) ⌝ }
-{
-    let flat = layout::flat_at(g);
-    for e in 0..g.e {
-        let c = edge_capacity(w, g, e);
-        w[flat + e] = c;
-    }
-}
-
-// "d − c or 0, whichever is larger"
-fn over_of(d: u32, c: u32) -> u32
-    ensures { λ r. ⌜ r ≡ over c d ⌝ }
-{
-    if c < d {
-        return d - c;
-    }
-    0
-}
-
-fn larger(a: u32, b: u32) -> u32
-    ensures { λ r. ⌜ r ≡ max a b ⌝ }
-{
-    if a < b {
-        return b;
-    }
-    a
-}
-
-// Puts o(e) in the place of d(e) for each edge, and returns TO and MO.
-pub fn overflows(w: &mut [u32], g: Shape) -> Flat
-    requires { ⌜ Shaped g ⌝ }
-    requires { ⌜ tilesAt g ≤ length (now w) ⌝ }
-    requires { ⌜ ((e : ℕ) → e < g .e → getD (now w) (demandAt g + e) 0 ≤ mostNets) ⌝ }
-    ensures { λ r. ⌜ ((j : Job) → FlatDemands g j (now (w .entry)) → FlatCapacities g j (now (w .entry)) → g .e ≡ edgeCount j → Overflows g j (now (w .exit)) r) ⌝ }
-    ensures { λ _. ⌜ Outside (demandAt g) (g .e) (now (w .entry)) (now (w .exit)) ⌝ }
-{
-    let demand = layout::demand_at(g);
-    let flat = layout::flat_at(g);
-    let mut total = 0u64;
-    let mut most = 0u32;
-    for e in 0..g.e {
-        let o = over_of(w[demand + e], w[flat + e]);
-        w[demand + e] = o;
-        total += o as u64;
-        most = larger(most, o);
-    }
-    Flat { total, most }
-}
-
-// "MO/K rounded up"
-pub fn limit_of(most: u32, k: usize) -> u32
-    requires { ⌜ (most ≤ mostNets) × (1 ≤ k) × (k ≤ mostLayers) ⌝ }
-    ensures { λ r. ⌜ r ≡ ceilDiv most k ⌝ }
-{
-    let n = k as u32;
-    (most + (n - 1)) / n
-}
 
 // By how much a layer may pass its capacity: the limit where the edge has overflow left.
 fn room_of(left: u32, limit: u32) -> u32
@@ -170,7 +57,7 @@ pub fn legal(w: &[u32], g: Shape, edge: usize, limit: u32) -> u32
     ensures { λ r. ⌜ r ≡ legalMask g (now (w .entry)) edge limit ⌝ }
     ensures { λ r. ⌜ r < 256 ⌝ }
 {
-    let caps = edge_at(g, edge);
+    let caps = layout::edge_at(g, edge);
     let loads = layout::loads_at(g) + caps;
     let room = room_of(w[layout::demand_at(g) + edge], limit);
     if g.k == 8 {
@@ -198,7 +85,7 @@ pub fn occupy(w: &mut [u32], g: Shape, edge: usize, layer: usize)
     requires { ⌜ Free g (now w) edge layer ⌝ }
     ensures { λ _. ⌜ now (w .exit) ≡ occupied g (now (w .entry)) edge layer ⌝ }
 {
-    let cap = edge_at(g, edge) + (layer - 1);
+    let cap = layout::edge_at(g, edge) + (layer - 1);
     let load = layout::loads_at(g) + cap;
     let left = layout::demand_at(g) + edge;
     let nets = w[load];
@@ -221,16 +108,5 @@ pub fn occupy_all(w: &mut [u32], g: Shape, n: usize)
         let edge = w[above + i] as usize;
         let layer = w[layers + i] as usize;
         occupy(w, g, edge, layer);
-    }
-}
-
-// Zeroes the whole slice.
-pub fn clear(w: &mut [u32])
-    ensures { λ _. ⌜ now (w .exit) ≡ replicate (length (now (w .entry))) 0 ⌝ }
-{
-    let mut i = 0;
-    while i < w.len() {
-        w[i] = 0;
-        i += 1;
     }
 }

@@ -25,7 +25,7 @@ use Rattle.theory.specs.links.Planned.{turn-legal}
 use Rattle.theory.specs.links.Tests.{is-true, has-in}
 use Rattle.tracks.specs.Legal.{legalMask, legal-in}
 use Rattle.tracks.specs.OccupiedAll.{layersAt, edgesOf, layersIn}
-use Rattle.tracks.specs.Places.{SmallCapacities, small-capacities}
+use Rattle.net.specs.Places.{SmallCapacities, small-capacities}
 use Rattle.turn.specs.Kept.{outside-low, so-far-low}
 use Rattle.turn.specs.Steps.{masksAt, engineOf, KnownEdges, LegalPut}
 use Rattle.turn.specs.Turn.{Turn, turnNet, turnWalk, walkLayers, turnLimit, turnVias, NetWalked, NetChosen}

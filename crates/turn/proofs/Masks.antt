@@ -11,7 +11,7 @@ use Rattle.layout.specs.Areas.{aboveAt}
 use Rattle.layout.specs.Parts.{Outside, set-outside, outside-wider, outside-then, outside-same}
 use Rattle.layout.specs.declared.Shape.{Shape}
 use Rattle.tracks.specs.Legal.{legalMask}
-use Rattle.tracks.specs.Places.{SmallCapacities}
+use Rattle.net.specs.Places.{SmallCapacities}
 use Rattle.turn.specs.Kept.{outside-low, small-low, mask-low}
 use Rattle.turn.specs.Steps.{masksAt, KnownEdges, LegalPut}
 

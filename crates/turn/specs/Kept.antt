@@ -14,7 +14,7 @@ use Rattle.model.specs.Lists.{bit}
 use Rattle.net.specs.SoFar.{SoFarWith}
 use Rattle.tracks.specs.Legal.{roomOf, openTo, openAt, legalMask}
 use Rattle.tracks.specs.Masks.{bitsUp}
-use Rattle.tracks.specs.Places.{SmallCapacities, edge-room}
+use Rattle.net.specs.Places.{SmallCapacities, edge-room}
 
 -- w′ is w below the flat capacities
 abbrev pub SameLow : Shape → List ℕ → List ℕ → Type 0

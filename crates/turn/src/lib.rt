@@ -12,7 +12,7 @@ ghost use Rattle.layout.specs.Shapes.{Shaped};
 ghost use Rattle.model.specs.Job.{Job, Net};
 ghost use Rattle.model.specs.Limits.{mostNets};
 ghost use Rattle.tracks.specs.OccupiedAll.{edgesOf, layersIn};
-ghost use Rattle.tracks.specs.Places.{SmallCapacities};
+ghost use Rattle.net.specs.Places.{SmallCapacities};
 ghost use Rattle.turn.specs.Turn.{Turn, turnLimit, turnVias, Before, BeforeSome, TurnAt, TurnSome, NetWalked, WalkedSome, NetChosen, ChosenSome, NetPlaced, TurnDone};
 ghost use Rattle.turn.specs.Steps.{KnownEdges, LegalPut, engineOf, putBy, CanAnswer, listedLayers};
 

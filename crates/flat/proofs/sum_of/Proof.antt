@@ -5,10 +5,10 @@ use Prim.Native.Nat.{ℕ, _*_, _-_, _≤_}
 use native.Mathlib.Omega.{arith}
 use borrow.Author.Needs.{needs}
 use Rattle.model.specs.Limits.{mostCapacity}
-use Rattle.tracks.specs.FlatPlan.{sumAt}
-use Rattle.tracks.proofs.Turns.{sum-at-next}
-use Rattle.tracks.proofs.sum_of.Statement.{statement}
-use Rattle.tracks.proofs.sum_of.Tie as tie
+use Rattle.flat.specs.FlatPlan.{sumAt}
+use Rattle.flat.proofs.Turns.{sum-at-next}
+use Rattle.flat.proofs.sum_of.Statement.{statement}
+use Rattle.flat.proofs.sum_of.Tie as tie
 
 abbrev Inv-loop : tie.InvT-loop
 Inv-loop w at k sum₀ l₀ sum l = (l ≤ k) × (sum ≤ mostCapacity * l) × (sum ≡ sumAt at l w)

@@ -6,11 +6,11 @@ use native.Mathlib.Omega.{arith}
 use lib.ListN.{length}
 use borrow.Author.Needs.{needs}
 use Rattle.layout.specs.Areas.{loadsAt}
-use Rattle.tracks.specs.FlatPlan.{capacitySum}
-use Rattle.tracks.proofs.Fill.{Filled, filled-none, filled-next}
-use Rattle.tracks.proofs.Turns.{small-kept, sum-kept, summed}
-use Rattle.tracks.proofs.flat_capacities.Statement.{statement}
-use Rattle.tracks.proofs.flat_capacities.Tie as tie
+use Rattle.flat.specs.FlatPlan.{capacitySum}
+use Rattle.flat.proofs.Fill.{Filled, filled-none, filled-next}
+use Rattle.flat.proofs.Turns.{small-kept, sum-kept, summed}
+use Rattle.flat.proofs.flat_capacities.Statement.{statement}
+use Rattle.flat.proofs.flat_capacities.Tie as tie
 
 abbrev Inv-loop : tie.InvT-loop
 Inv-loop w₀ g flat e₀ e-end w e = (e ≤ e-end) × Filled flat e (capacitySum g w₀) w₀ w

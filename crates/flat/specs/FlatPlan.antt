@@ -17,8 +17,8 @@ use Rattle.theory.specs.congestion.Base.{in-upFrom}
 use Rattle.theory.specs.congestion.Order.{sum-shift}
 use Rattle.theory.specs.congestion.Sums.{In, sum-eq, sum-zero, most-le, most-part}
 use Rattle.theory.specs.links.Planned.{load-empty}
-use Rattle.tracks.specs.Places.{cap-at, edge-room}
-use Rattle.tracks.specs.declared.Flat.{Flat}
+use Rattle.net.specs.Places.{cap-at, edge-room}
+use Rattle.flat.specs.declared.Flat.{Flat}
 
 -- c(e) stands in the flat capacities
 abbrev pub FlatCapacities : Shape → Job → List ℕ → Type 0

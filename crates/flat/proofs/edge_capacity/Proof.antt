@@ -6,9 +6,9 @@ use native.Mathlib.Omega.{arith}
 use borrow.Author.Needs.{needs}
 use lib.ListN.{getD}
 use Rattle.model.specs.Limits.{mostCapacity}
-use Rattle.tracks.specs.FlatPlan.{sumAt}
-use Rattle.tracks.proofs.edge_capacity.Statement.{statement}
-use Rattle.tracks.proofs.edge_capacity.Tie as tie
+use Rattle.flat.specs.FlatPlan.{sumAt}
+use Rattle.flat.proofs.edge_capacity.Statement.{statement}
+use Rattle.flat.proofs.edge_capacity.Tie as tie
 
 -- the k capacities of an edge, where they stand
 module _ (s : tie.Start) where

@@ -3,8 +3,8 @@
 use mathlib.Core.Path.{refl}
 use borrow.Author.Needs.{needs}
 use Rattle.model.specs.Overflow.{ceilDiv}
-use Rattle.tracks.proofs.limit_of.Statement.{statement}
-use Rattle.tracks.proofs.limit_of.Tie as tie
+use Rattle.flat.proofs.limit_of.Statement.{statement}
+use Rattle.flat.proofs.limit_of.Tie as tie
 
 returns : tie.Need-returns
 unfolding ceilDiv

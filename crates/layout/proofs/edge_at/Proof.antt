@@ -2,9 +2,9 @@
 -- Assumes nothing.
 use mathlib.Core.Path.{refl}
 use native.Mathlib.Omega.{arith}
-use Rattle.tracks.specs.Places.{edge-room}
-use Rattle.tracks.proofs.edge_at.Statement.{statement}
-use Rattle.tracks.proofs.edge_at.Tie as tie
+use Rattle.layout.specs.Areas.{edge-room}
+use Rattle.layout.proofs.edge_at.Statement.{statement}
+use Rattle.layout.proofs.edge_at.Tie as tie
 
 mul-result : tie.Need-mul-result
 mul-result c = let s = c .before in omega (arith, edge-room (s .args .g) (s .args .edge) (s .pre .1), s .pre .0 .all-most)

@@ -7,11 +7,11 @@ use lib.ListN.{getD}
 use borrow.Author.Needs.{needs}
 use Rattle.model.specs.Limits.{mostNets}
 use Rattle.model.specs.Lists as lists
-use Rattle.tracks.specs.FlatPlan.{overIn}
-use Rattle.tracks.proofs.Fill.{Filled, filled-none, filled-next}
-use Rattle.tracks.proofs.Turns.{sum-next, most-next, over-kept, over-small, overflowed}
-use Rattle.tracks.proofs.overflows.Statement.{statement}
-use Rattle.tracks.proofs.overflows.Tie as tie
+use Rattle.flat.specs.FlatPlan.{overIn}
+use Rattle.flat.proofs.Fill.{Filled, filled-none, filled-next}
+use Rattle.flat.proofs.Turns.{sum-next, most-next, over-kept, over-small, overflowed}
+use Rattle.flat.proofs.overflows.Statement.{statement}
+use Rattle.flat.proofs.overflows.Tie as tie
 
 abbrev Inv-loop : tie.InvT-loop
 Inv-loop w₀ demand flat total₀ most₀ e₀ e-end w total most e =
