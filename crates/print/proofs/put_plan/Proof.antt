@@ -8,6 +8,16 @@ use Rattle.put.specs.Wrote.{room-one, room-two, room-three, wrote-then, from-st
 use Rattle.print.proofs.put_plan.Statement.{statement}
 use Rattle.print.proofs.put_plan.Tie as tie
 
+-- from behind each of the three writes to the one before it
+abbrev start : tie.After-put-order → tie.Start
+start c = c .before .before .before .before .before
+
+abbrev first : tie.After-put-nets → tie.After-put-order
+first c = c .before .before .before .before
+
+abbrev second : tie.After-put-totals → tie.After-put-nets
+second c = c .before .before .before .before
+
 pub put-plan-spec : {M : Type 1} → statement M
 put-plan-spec =
     tie.close
@@ -17,13 +27,13 @@ put-plan-spec =
       room-one 0 (printLine "order" (turnsOf (s .args .table .now) (s .args .n))) (netsText (s .args .table .now) (s .args .answer .now) 0 (s .args .n))
           (totalsText (s .args .vias) (s .args .total) (s .args .most)) (s .args .b .now) (omega (arith, s .pre .1)),
     ))
-    (λ c κs. let s = c .before .before .before .before .before .before .before .before in (
+    (λ c κs. let a = c .before .before .before in let s = start a in (
       s .pre .0,
       room-two 0 (printLine "order" (turnsOf (s .args .table .now) (s .args .n))) (netsText (s .args .table .now) (s .args .answer .now) 0 (s .args .n))
-          (totalsText (s .args .vias) (s .args .total) (s .args .most)) (s .args .b .now) (omega (arith, s .pre .1)) (c .before .before .before .put-order .ensures),
+          (totalsText (s .args .vias) (s .args .total) (s .args .most)) (s .args .b .now) (omega (arith, s .pre .1)) (a .put-order .ensures),
     ))
-    (λ c κs. let s = c .before .before .before .before .before .before .before .before .before .before .before .before in
+    (λ c κs. let a = c .before .before .before in let s = start (first a) in
     room-three 0 (printLine "order" (turnsOf (s .args .table .now) (s .args .n))) (netsText (s .args .table .now) (s .args .answer .now) 0 (s .args .n))
-    (totalsText (s .args .vias) (s .args .total) (s .args .most)) (s .args .b .now) (omega (arith, s .pre .1)) (c .before .before .before .before .before .before .before .put-order .ensures) (c .before .before .before .put-nets .ensures))
+    (totalsText (s .args .vias) (s .args .total) (s .args .most)) (s .args .b .now) (omega (arith, s .pre .1)) (first a .put-order .ensures) (a .put-nets .ensures))
     (λ c. search needs)
-    (λ c. from-start (wrote-then (wrote-then (c .before .before .before .before .before .before .before .before .before .before .put-order .ensures) (c .before .before .before .before .before .before .put-nets .ensures)) (c .before .before .put-totals .ensures))))
+    (λ c. from-start (wrote-then (wrote-then (first (second (c .before .before)) .put-order .ensures) (second (c .before .before) .put-nets .ensures)) (c .before .before .put-totals .ensures))))

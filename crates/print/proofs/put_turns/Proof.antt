@@ -19,6 +19,13 @@ Inv-loop b₀ from table n at₀ k₀ b at k =
 abbrev μ-loop : tie.MeasureT-loop
 μ-loop b₀ from table n at₀ k₀ b at k = n - k
 
+-- the first number written, seen from the loop, and the entry
+abbrev start : tie.After-number Inv-loop μ-loop → tie.Start Inv-loop μ-loop
+start c = c .before .before .before .before .before .before
+
+abbrev first : tie.At-loop Inv-loop μ-loop → tie.After-number Inv-loop μ-loop
+first l = l .before .before .before
+
 number-requires : tie.Need-number-requires Inv-loop μ-loop
 number-requires c κs =
     let s = c .before .before .before .before .before in
@@ -37,7 +44,7 @@ loop-holds c =
 next-number-requires : tie.Need-next-number-requires Inv-loop μ-loop
 next-number-requires c κs =
     let l = c .before .before .before in
-    let s = l .before .before .before .before .before .before .before .before .before in
+    let s = start (first l) in
     turn-room (s .args .table .now) (s .args .n) (l .loop .k) (c .turn-of2 .result) (omega arith) (c .turn-of2 .ensures) (l .loop .inv .2) (l .loop .inv .1)
 
 loop-again : tie.Need-loop-again Inv-loop μ-loop
@@ -45,7 +52,7 @@ loop-again c =
     let p = c .before .before in
     let t = p .before in
     let l = t .before .before .before in
-    let s = l .before .before .before .before .before .before .before .before .before in
+    let s = start (first l) in
     let h : l .loop .k < s .args .n = omega arith in (
       omega arith,
       l .loop .inv .1,

@@ -17,6 +17,17 @@ Inv-loop b₀ from xs at₀ i₀ i-end b at i =
 abbrev μ-loop : tie.MeasureT-loop
 μ-loop b₀ from xs at₀ i₀ i-end b at i = length xs - i
 
+-- the first number written, seen from the loop, and the entry
+abbrev start : tie.After-number Inv-loop μ-loop → tie.Start Inv-loop μ-loop
+start c = c .before .before .before .before .before .before
+
+abbrev first : tie.At-loop Inv-loop μ-loop → tie.After-number Inv-loop μ-loop
+first l = l .before .before .before
+
+-- the loop, seen from behind the next number
+abbrev turn : tie.After-next-number Inv-loop μ-loop → tie.At-loop Inv-loop μ-loop
+turn c = c .before .before .before .before
+
 number-requires : tie.Need-number-requires Inv-loop μ-loop
 number-requires c κs =
     let s = c .before .before .before .before .before in
@@ -24,20 +35,20 @@ number-requires c κs =
 
 loop-holds : tie.Need-loop-holds Inv-loop μ-loop
 loop-holds c =
-    let s = c .before .before .before .before .before .before .before .before in
-    let p = c .before .before .number in
-    (omega arith, refl, others-room (s .args .xs .now) (omega arith) (p .ensures) (s .pre), left-start _ _ _)
+    let p = c .before .before in
+    let s = start p in
+    (omega arith, refl, others-room (s .args .xs .now) (omega arith) (p .number .ensures) (s .pre), left-start _ _ _)
 
 next-number-requires : tie.Need-next-number-requires Inv-loop μ-loop
 next-number-requires c κs =
     let l = c .before .before .before in
-    let s = l .before .before .before .before .before .before .before .before .before in
+    let s = start (first l) in
     turn-room (s .args .xs .now) (l .loop .i) (omega arith) (l .loop .inv .3) (l .loop .inv .2)
 
 loop-again : tie.Need-loop-again Inv-loop μ-loop
 loop-again c =
-    let l = c .before .before .before .before .before .before in
-    let s = l .before .before .before .before .before .before .before .before .before in
+    let l = turn (c .before .before) in
+    let s = start (first l) in
     let h : l .loop .i < length (s .args .xs .now) = omega arith in
     (omega arith, refl, l .loop .inv .2, turn-more (s .args .xs .now) (l .loop .i) h (l .loop .inv .3) (c .before .before .next-number .ensures))
 
@@ -45,7 +56,7 @@ returns-2 : tie.Need-returns-2 Inv-loop μ-loop
 returns-2 c =
     let l = c .before in
     let p = l .before .before .before in
-    let s = p .before .before .before .before .before .before in
+    let s = start p in
     list-whole (s .args .xs .now) (omega arith) (p .number .ensures) (others-done (s .args .xs .now) (l .loop .i) (omega arith) (l .loop .inv .3))
 
 pub bytes-spec : {M : Type 1} → statement M
