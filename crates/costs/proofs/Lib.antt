@@ -1,7 +1,6 @@
 mod Runs
 mod Around
-mod Swept
-mod Joined
+mod Meets
 mod Root
 mod Steps
 mod Tiles

@@ -12,16 +12,17 @@ use lib.ListN.{getD, length, set, length-set}
 use lib.Seq.{getD-set-same, getD-set-other}
 use Rattle.model.specs.Lists.{upFrom}
 use Rattle.theory.specs.congestion.Sums.{lt-or-ge, in-head}
-use Rattle.theory.specs.engine.Span.{covers-cons}
+use Rattle.theory.specs.engine.Span.{span, Climbs, covers-cons}
 use Rattle.theory.specs.engine.Interval.{leastIn, least-in-top}
-use Rattle.costs.specs.Mask.{has, withLayer, spanOf, IsSet, with-small, span-le-7, top, bottom, no-layer, Ends, ends-of}
+use Rattle.theory.specs.engine.Sweeps as any
+use Rattle.theory.specs.engine.Swept.{up-top, swept-top, down-same, swept-same}
+use Rattle.costs.specs.Mask.{has, withLayer, spanOf, IsSet, set-none, mask-price, with-small, span-le-7, top, bottom, no-layer, Ends, ends-of}
 use Rattle.costs.specs.Rows.{illegalCost, Eight, LayerMask}
 use Rattle.costs.specs.Intervals.{leastOver, within, branchSum, interval, leastEnd, around, Taken, PinEnds}
 use Rattle.costs.specs.Combinations.{covers-none}
 use Rattle.costs.specs.Sweeps.{sweptUp, sweptDown, swept, met, thirdMet, Small}
 use Rattle.costs.proofs.Runs.{run-more, run-same}
 use Rattle.costs.proofs.Around.{over-top, sum-top}
-use Rattle.costs.proofs.Swept.{swept-top, one-span}
 
 pub long-set : (v : List ℕ) (b x : ℕ) → length v ≡ 8 → length (set v b x) ≡ 8
 long-set v b x n = length-set v b x ∙ n
@@ -41,6 +42,14 @@ eight-more v f s b x h e p = record { long = long-set v b x (p .long); at = λ t
 -- the loop is done
 pub eight-all : (v : List ℕ) (f : ℕ → ℕ) (s b K : ℕ) → K ≤ b → Eight v f s b → Eight v f s K
 eight-all v f s b K h p = record { long = p .long; at = λ t q r. p .at t q (omega arith) }
+
+-- the same in a longer list: c has the numbers f up to b
+pub filled-more : (c : List ℕ) (f : ℕ → ℕ) (b x : ℕ) → b < length c → x ≡ f b → ((t : ℕ) → t < b → getD c t 0 ≡ f t) → (t : ℕ) → t < b + 1 → getD (set c b x) t 0 ≡ f t
+filled-more c f b x h e p t q = go (lt-or-ge t b)
+  where
+    go : (t < b) ⊎ (b ≤ t) → getD (set c b x) t 0 ≡ f t
+    go (inl k) = getD-set-other c b t x 0 (λ z. omega (arith, z)) ∙ p t k
+    go (inr k) = let i : t ≡ b = omega arith in rw i (getD-set-same c b x 0 h ∙ e)
 
 -- ---- filling downwards: v has the numbers f from b up to K, and below b those of v₀
 
@@ -185,8 +194,17 @@ around-end w o first k starts s high c e p = subst (λ (x : ℕ). Eight c (aroun
 
 -- ---- the sweeps
 
+-- a layer is one via above the next below it
+climbs : Climbs suc
+climbs a b h = omega arith
+
+pub up-small : (g : ℕ → ℕ) (l : ℕ) → sweptUp g l ≤ illegalCost
+up-small g zero = omega arith
+up-small g (suc l) = up-top suc climbs illegalCost g l
+
 pub swept-up-more : (g : ℕ → ℕ) (l x : ℕ) → x ≡ sweptUp g l → min (min (x + 1) (g l)) illegalCost ≡ sweptUp g (suc l)
-swept-up-more g l x e = rw e refl
+swept-up-more g zero x e = omega (arith, e)
+swept-up-more g (suc l) x e = let i : suc (suc l) - suc (suc l - 1) ≡ 1 = omega arith in rw (e, i) refl
 
 pub swept-down-none : (g : ℕ → ℕ) (K : ℕ) → illegalCost ≡ sweptDown g K (K - K)
 swept-down-none g K = let e : K - K ≡ 0 = omega arith in rw e refl
@@ -195,7 +213,8 @@ pub swept-down-more : (g : ℕ → ℕ) (K l x y : ℕ) → 1 ≤ l → l ≤ K 
 swept-down-more g K l x y h k ex ey =
     let i : K - (l - 1) ≡ suc (K - l) = omega arith in
     let j : K - suc (K - l) ≡ l - 1 = omega arith in
-    rw (ex, ey, i, j) refl
+    let d : suc (K - (K - l)) - suc (l - 1) ≡ 1 = omega arith in
+    rw (ex, ey, i, j, d) refl
 
 pub swept-down-top : (g : ℕ → ℕ) (K n : ℕ) → ((t : ℕ) → t < K → g t ≤ illegalCost) → n ≤ K → sweptDown g K n ≤ illegalCost
 swept-down-top g K zero h k = omega arith
@@ -204,52 +223,38 @@ swept-down-top g K (suc n) h k = omega (arith, h (K - suc n) (omega arith))
 pub down-all : (v₀ v : List ℕ) (f : ℕ → ℕ) (K b : ℕ) → b ≡ 0 → FilledDown v₀ v f K b → Eight v f 0 K
 down-all v₀ v f K b e p = record { long = p .long; at = λ t q r. p .done t (omega arith) r }
 
--- costs that agree below K are swept alike
-module _ (g h : ℕ → ℕ) (K : ℕ) (e : (t : ℕ) → t < K → g t ≡ h t) where
-  up-same : (n : ℕ) → n ≤ K → sweptUp g n ≡ sweptUp h n
-  up-same zero k = refl
-  up-same (suc n) k = omega (arith, up-same n (omega arith), e n (omega arith))
-
-  down-same : (n : ℕ) → n ≤ K → sweptDown g K n ≡ sweptDown h K n
-  down-same zero k = refl
-  down-same (suc n) k = omega (arith, down-same n (omega arith), e (K - suc n) (omega arith))
-
-pub swept-same : (g h : ℕ → ℕ) (K l : ℕ) → ((t : ℕ) → t < K → g t ≡ h t) → swept g K l ≡ swept h K l
-unfolding swept
-swept-same g h K l e = down-same (λ t. sweptUp g (suc t)) (λ t. sweptUp h (suc t)) K (λ t q. up-same g h K e (suc t) q) (K - l) (omega arith)
-
 -- the two sweeps together
 pub swept-both : (g : ℕ → ℕ) (K : ℕ) (c c′ : List ℕ) → Eight c (λ l. sweptUp g (suc l)) 0 K → Eight c′ (λ l. sweptDown (λ t. getD c t 0) K (K - l)) 0 K → Eight c′ (swept g K) 0 K
-unfolding swept
+unfolding any.swept
 swept-both g K c c′ p q = record {
   long = q .long;
-  at = λ l a b. q .at l a b ∙ down-same (λ t. getD c t 0) (λ t. sweptUp g (suc t)) K (λ t k. p .at t (omega arith) k) (K - l) (omega arith);
+  at = λ l a b. q .at l a b ∙ down-same suc illegalCost (λ t. getD c t 0) (λ t. sweptUp g (suc t)) K (λ t k. p .at t (omega arith) k) (K - l) (omega arith);
 }
 
 -- ---- branches that meet
 
 pub small-swept : (g : ℕ → ℕ) (r : List ℕ) → Eight r (swept g 8) 0 8 → Small r
-small-swept g r p l h = omega (arith, p .at l (omega arith) h, swept-top g 8 l h)
+small-swept g r p l h = omega (arith, p .at l (omega arith) h, swept-top suc climbs illegalCost g 8 l h)
 
 pub small-met : (x y : ℕ → ℕ) (r : List ℕ) → Eight r (met x y 8) 0 8 → Small r
-unfolding met
+unfolding any.met
 small-met x y r p = small-swept (λ t. x t + y t) r p
 
 -- the costs s, swept as code has them
 swept-list : (f : ℕ → ℕ) (s r : List ℕ) → Eight s f 0 8 → Eight r (swept (λ u. getD s (0 + u) 0) 8) 0 8 → Eight r (swept f 8) 0 8
 swept-list f s r p q = record {
   long = q .long;
-  at = λ l a b. q .at l a b ∙ swept-same (λ u. getD s (0 + u) 0) f 8 l (λ t k. let i : 0 + t ≡ t = omega arith in ap (λ (x : ℕ). getD s x 0) i ∙ p .at t (omega arith) k);
+  at = λ l a b. q .at l a b ∙ swept-same suc illegalCost (λ u. getD s (0 + u) 0) f 8 l (λ t k. let i : 0 + t ≡ t = omega arith in ap (λ (x : ℕ). getD s x 0) i ∙ p .at t (omega arith) k);
 }
 
 pub met-list : (a b s r : List ℕ) → Eight s (λ l. getD a l 0 + getD b l 0) 0 8 → Eight r (swept (λ u. getD s (0 + u) 0) 8) 0 8
     → Eight r (met (λ l. getD a l 0) (λ l. getD b l 0) 8) 0 8
-unfolding met
+unfolding any.met
 met-list a b s r = swept-list (λ l. getD a l 0 + getD b l 0) s r
 
 met-same : (x x′ y y′ : ℕ → ℕ) (l : ℕ) → ((t : ℕ) → t < 8 → x t ≡ x′ t) → ((t : ℕ) → t < 8 → y t ≡ y′ t) → met x y 8 l ≡ met x′ y′ 8 l
-unfolding met
-met-same x x′ y y′ l e e′ = swept-same (λ t. x t + y t) (λ t. x′ t + y′ t) 8 l (λ t k. omega (arith, e t k, e′ t k))
+unfolding any.met
+met-same x x′ y y′ l e e′ = swept-same suc illegalCost (λ t. x t + y t) (λ t. x′ t + y′ t) 8 l (λ t k. omega (arith, e t k, e′ t k))
 
 pub pair-list : (x y : ℕ → ℕ) (a b r : List ℕ) → Eight a x 0 8 → Eight b y 0 8 → Eight r (met (λ l. getD a l 0) (λ l. getD b l 0) 8) 0 8 → Eight r (met x y 8) 0 8
 pair-list x y a b r p q m = record {
@@ -260,7 +265,7 @@ pair-list x y a b r p q m = record {
 pub triple-list : (x y z : ℕ → ℕ) (a b d yz xz xy s₁ s₂ s₃ r : List ℕ) → Eight a x 0 8 → Eight b y 0 8 → Eight d z 0 8 → Eight yz (met y z 8) 0 8 → Eight xz (met x z 8) 0 8
     → Eight xy (met x y 8) 0 8 → Eight s₁ (λ l. getD a l 0 + getD yz l 0) 0 8 → Eight s₂ (λ l. min (getD s₁ l 0) (getD b l 0 + getD xz l 0)) 0 8
     → Eight s₃ (λ l. min (getD s₂ l 0) (getD d l 0 + getD xy l 0)) 0 8 → Eight r (swept (λ u. getD s₃ (0 + u) 0) 8) 0 8 → Eight r (thirdMet x y z 8) 0 8
-unfolding thirdMet
+unfolding any.thirdMet
 triple-list x y z a b d yz xz xy s₁ s₂ s₃ r pa pb pd pyz pxz pxy p₁ p₂ p₃ =
     swept-list (λ t. min (min (x t + met y z 8 t) (y t + met x z 8 t)) (z t + met x y 8 t)) s₃ r
     (record {
@@ -277,8 +282,13 @@ triple-list x y z a b d yz xz xy s₁ s₂ s₃ r pa pb pd pyz pxz pxy p₁ p₂
 
 -- ---- a tile with no pin and no branch
 
+-- one layer has no vias
+one-span : (x : ℕ) → 1 ≤ x → x ≤ 8 → spanOf (withLayer 0 x) ≡ 0
+unfolding span
+one-span x p q = omega (arith, mask-price 0 [] (x ∷ []) (covers-cons 1 8 x [] p q (covers-none 1 8)) set-none)
+
 pub leaf-none : (pins : ℕ) (c : List ℕ) → pins ≡ 0 → length c ≡ 8 → ((b : ℕ) → b < 8 → getD c b 0 ≡ 0) → Eight c (λ l. spanOf (withLayer pins (suc l))) 0 8
-leaf-none pins c e n h = record { long = n; at = λ b p q. rw e (h b q ∙ sym (one-span (suc b) (omega arith, omega arith))) }
+leaf-none pins c e n h = record { long = n; at = λ b p q. rw e (h b q ∙ sym (one-span (suc b) (omega arith) (omega arith))) }
 
 pub small-leaf : (pins : ℕ) (r : List ℕ) → pins < 256 → Eight r (λ l. spanOf (withLayer pins (suc l))) 0 8 → Small r
 small-leaf pins r h p l k = omega (arith, p .at l (omega arith) k, span-le-7 (withLayer pins (suc l)) (with-small pins (suc l) h (omega arith) (omega arith)))

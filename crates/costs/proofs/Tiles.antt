@@ -10,8 +10,7 @@ use Rattle.costs.specs.Rows.{Eight, LeastCost, TileCosts, LayerMask}
 use Rattle.costs.specs.Intervals.{around, PinEnds}
 use Rattle.costs.specs.Sweeps.{swept, met, pairMet, tripleMet}
 use Rattle.costs.proofs.Around.{around-least}
-use Rattle.costs.proofs.Swept.{swept-least, leaf-least}
-use Rattle.costs.proofs.Joined.{pair-least, triple-least, pin-least}
+use Rattle.costs.proofs.Meets.{swept-least, pair-least, triple-least, pin-least, leaf-least}
 use Rattle.costs.proofs.Steps.{ends-one}
 
 -- by layers from 0
@@ -45,7 +44,7 @@ pub pin-costs : (w : List ℕ) (o first k pins starts high : ℕ) (c : List ℕ)
     → Eight c (met (swept (λ u. getD w (o + 8 * first + u) 0) 8) (λ l. spanOf (withLayer pins (suc l))) 8) 0 8 → TileCosts w o first k 8 pins c
 pin-costs w o first k pins starts high c e mask ends one p =
     by-layer w o first k 8 pins c
-    (λ b h. rw (e, p .at b (omega arith) h) (pin-least w o first 8 b pins high (omega arith) h (ends .top) (ends-one pins starts high mask ends one)))
+    (λ b h. rw (e, p .at b (omega arith) h) (pin-least w o first 8 b (omega arith) h pins high (ends .top) (ends-one pins starts high mask ends one)))
 
 -- the same where the number of branches is given as a number of its own
 pub interval-costs-of : (w : List ℕ) (o first k n pins starts high : ℕ) (c : List ℕ) → k ≡ n → n ≤ 3 → LayerMask 8 pins → PinEnds 8 pins starts high

@@ -9,6 +9,7 @@ use native.Mathlib.Omega.{arith}
 use lib.Bits.{bitOr}
 use lib.Count.{leadingZeros, trailingZeros}
 use lib.Dec.{T, leb, leb→le, eqb, eqb→eq, eqb-refl}
+use lib.ListN.{getD}
 use Rattle.model.specs.Lists.{upFrom, keep}
 use Rattle.theory.specs.congestion.Sums.{In, occurs, in-head, in-tail, same-cases, in-keep}
 use Rattle.theory.specs.congestion.Base.{in-upFrom}
@@ -31,6 +32,10 @@ maskOf m (l ∷ ls) = maskOf (withLayer m l) ls
 -- highest minus lowest layer of the set, by the zeros at both ends of its 32 digits; 0 of the empty set
 unfoldable pub spanOf : ℕ → ℕ
 spanOf m = 31 - leadingZeros 32 m - trailingZeros 32 m
+
+-- the chart has the cost of every set of eight layers: `price m` is that of the set m
+pub record Charted (price : ℕ → ℕ) (chart : List ℕ) : Type 0 where
+  pub at : (m : ℕ) → m < 256 → getD chart m 0 ≡ price m
 
 -- mask m is the set of the layers xs
 pub record IsSet (m : ℕ) (xs : List ℕ) : Type 0 where

@@ -18,7 +18,7 @@ ghost use lib.Dec.{leb, eqb};
 ghost use lib.ListN.{getD, length};
 ghost use Rattle.model.specs.Lists.{upFrom};
 ghost use Rattle.theory.specs.engine.Interval.{leastIn};
-ghost use Rattle.costs.specs.Mask.{withLayer, spanOf, top, bottom};
+ghost use Rattle.costs.specs.Mask.{withLayer, spanOf, top, bottom, Charted};
 ghost use Rattle.costs.specs.Rows.{illegalCost, LeastCost, Eight, TileCosts, RowPut, RowWritten, firstIn, branchesIn, pinsIn, legalIn, rootBranches, LayerMask, Shape, RowsFrom};
 ghost use Rattle.costs.specs.Intervals.{within, interval, Taken, around, PinEnds};
 ghost use Rattle.costs.specs.Sweeps.{sweptUp, sweptDown, swept, Small, met, pairMet, tripleMet};
@@ -56,7 +56,7 @@ fn highest(mask: u32) -> u32
 }
 
 // The vias of a tile: highest minus lowest layer of its set, 0 of the empty one.
-pub fn span(mask: u32) -> u32
+fn set_cost(mask: u32) -> u32
     requires { ⌜ mask < 256 ⌝ }
     ensures { λ r. ⌜ r ≡ spanOf mask ⌝ }
     ensures { λ r. ⌜ r ≤ 7 ⌝ }
@@ -65,6 +65,27 @@ pub fn span(mask: u32) -> u32
         return 0;
     }
     highest(mask) - lowest(mask)
+}
+
+// The vias of every set of layers, by mask. Filled once in a call and lent to all that ask for the vias of a set.
+pub fn chart() -> [u32; 256]
+    ensures { λ r. ⌜ Charted spanOf r ⌝ }
+{
+    let mut c = [0u32; 256];
+    for m in 0..256 {
+        c[m] = set_cost(m as u32);
+    }
+    c
+}
+
+// The vias of a set, from the lent chart.
+pub fn span(chart: &[u32; 256], mask: u32) -> u32
+    requires { ⌜ Charted spanOf (now chart) ⌝ }
+    requires { ⌜ mask < 256 ⌝ }
+    ensures { λ r. ⌜ r ≡ spanOf mask ⌝ }
+    ensures { λ r. ⌜ r ≤ 7 ⌝ }
+{
+    chart[mask as usize]
 }
 
 fn least_of(x: u32, y: u32) -> u32
@@ -348,7 +369,8 @@ fn triple_costs(w: &[u32], at: usize) -> [u32; 8]
 // ---- the costs of a tile
 
 // A tile without branches: its vias.
-fn leaf_costs(pins: u32) -> [u32; 8]
+fn leaf_costs(chart: &[u32; 256], pins: u32) -> [u32; 8]
+    requires { ⌜ Charted spanOf (now chart) ⌝ }
     requires { ⌜ pins < 256 ⌝ }
     ensures { λ r. ⌜ Eight r (λ l. spanOf (withLayer pins (suc l))) 0 8 ⌝ }
 {
@@ -357,7 +379,7 @@ fn leaf_costs(pins: u32) -> [u32; 8]
         return c;
     }
     for l in 0..8 {
-        c[l] = span(with_layer(pins, l + 1));
+        c[l] = span(chart, with_layer(pins, l + 1));
     }
     c
 }
@@ -386,19 +408,28 @@ fn pin_ends(pins: u32, layers: usize) -> Bounds
 }
 
 // One branch, and pins that are all on one layer: the branch meets them.
-fn pin_costs(w: &[u32], at: usize, pins: u32) -> [u32; 8]
+fn pin_costs(w: &[u32], at: usize, pins: u32, chart: &[u32; 256]) -> [u32; 8]
+    requires { ⌜ Charted spanOf (now chart) ⌝ }
     requires { ⌜ at ≤ 33554432 ⌝ }
     requires { do ⌜ at + 8 ≤ (← ⟦w.len()⟧) ⌝ }
     requires { ⌜ pins < 256 ⌝ }
     ensures { λ r. ⌜ Eight r (met (swept (λ u. getD (now (w .entry)) (at + u) 0) 8) (λ l. spanOf (withLayer pins (suc l))) 8) 0 8 ⌝ }
 {
     let a = sweep_costs(w, at, 8);
-    let p = leaf_costs(pins);
+    let p = leaf_costs(chart, pins);
     meet(&a, &p)
 }
 
 // A tile with k branches, one or more, on eight layers.
-fn eight_costs(w: &[u32], o: usize, first: usize, k: usize, pins: u32) -> [u32; 8]
+fn eight_costs(
+    w: &[u32],
+    o: usize,
+    first: usize,
+    k: usize,
+    pins: u32,
+    chart: &[u32; 256],
+) -> [u32; 8]
+    requires { ⌜ Charted spanOf (now chart) ⌝ }
     requires { ⌜ (1 ≤ k) × (k ≤ 3) ⌝ }
     requires { ⌜ LayerMask 8 pins ⌝ }
     requires { ⌜ (first ≤ 65536) × (o ≤ 16777216) ⌝ }
@@ -417,7 +448,7 @@ fn eight_costs(w: &[u32], o: usize, first: usize, k: usize, pins: u32) -> [u32; 
     let e = pin_ends(pins, 8);
     if k == 1 {
         if e.starts == e.high + 1 {
-            return pin_costs(w, o + 8 * first, pins);
+            return pin_costs(w, o + 8 * first, pins, chart);
         }
         return eight_intervals(w, o, first, 1, e.starts, e.high);
     }
@@ -428,7 +459,16 @@ fn eight_costs(w: &[u32], o: usize, first: usize, k: usize, pins: u32) -> [u32; 
 }
 
 // The least cost of a tile with k branches, which lead to the tiles from `first` on, for each layer above it.
-fn tile_costs(w: &[u32], o: usize, first: usize, k: usize, layers: usize, pins: u32) -> [u32; 8]
+fn tile_costs(
+    w: &[u32],
+    o: usize,
+    first: usize,
+    k: usize,
+    layers: usize,
+    pins: u32,
+    chart: &[u32; 256],
+) -> [u32; 8]
+    requires { ⌜ Charted spanOf (now chart) ⌝ }
     requires { ⌜ k ≤ 3 ⌝ }
     requires { ⌜ LayerMask layers pins ⌝ }
     requires { ⌜ (1 ≤ layers) × (layers ≤ 8) ⌝ }
@@ -437,10 +477,10 @@ fn tile_costs(w: &[u32], o: usize, first: usize, k: usize, layers: usize, pins: 
     ensures { λ r. ⌜ TileCosts (now (w .entry)) o first k layers pins r ⌝ }
 {
     if k == 0 {
-        return leaf_costs(pins);
+        return leaf_costs(chart, pins);
     }
     if layers == 8 {
-        return eight_costs(w, o, first, k, pins);
+        return eight_costs(w, o, first, k, pins, chart);
     }
     if pins == 0 {
         if k == 1 {
@@ -493,7 +533,8 @@ pub fn at(w: &[u32], p: usize) -> usize
 }
 
 // Writes the row of tile i, which is not the root.
-fn tile_row(w: &mut [u32], m: usize, n: usize, i: usize, layers: usize)
+fn tile_row(w: &mut [u32], m: usize, n: usize, i: usize, layers: usize, chart: &[u32; 256])
+    requires { ⌜ Charted spanOf (now chart) ⌝ }
     requires { ⌜ Shape (now w) m n layers ⌝ }
     requires { ⌜ (1 ≤ i) × (i < n) ⌝ }
     ensures { λ _. ⌜ RowWritten (now (w .entry)) (now (w .exit)) (4 * m) i (firstIn (now (w .entry)) i) (branchesIn (now (w .entry)) i) layers (pinsIn (now (w .entry)) m i) (legalIn (now (w .entry)) m i) ⌝ }
@@ -502,19 +543,20 @@ fn tile_row(w: &mut [u32], m: usize, n: usize, i: usize, layers: usize)
     let end = at(w, i);
     let pins = at(w, m + i) as u32;
     let legal = at(w, 2 * m + i) as u32;
-    let c = tile_costs(w, 4 * m, first, end - first, layers, pins);
+    let c = tile_costs(w, 4 * m, first, end - first, layers, pins, chart);
     put_row(w, 4 * m + 8 * i, &c, legal);
 }
 
 // Writes the cost rows of the tiles n - 1 down to 1: each is taken over the rows of its branches, which stand further on.
-pub fn costs(w: &mut [u32], m: usize, n: usize, layers: usize)
+pub fn costs(w: &mut [u32], m: usize, n: usize, layers: usize, chart: &[u32; 256])
+    requires { ⌜ Charted spanOf (now chart) ⌝ }
     requires { ⌜ Shape (now w) m n layers ⌝ }
     ensures { λ _. ⌜ RowsFrom (now (w .entry)) (now (w .exit)) m n layers 1 ⌝ }
 {
     let mut i = n;
     while 1 < i {
         i -= 1;
-        tile_row(w, m, n, i, layers);
+        tile_row(w, m, n, i, layers, chart);
     }
 }
 
@@ -533,12 +575,13 @@ fn least_cost(c: &[u32; 8], layers: usize) -> u32
 }
 
 // The least cost of the root, and so of the net. No layer is above the root: it could be any.
-pub fn root_least(w: &[u32], m: usize, n: usize, layers: usize) -> u32
+pub fn root_least(w: &[u32], m: usize, n: usize, layers: usize, chart: &[u32; 256]) -> u32
+    requires { ⌜ Charted spanOf (now chart) ⌝ }
     requires { ⌜ Shape (now w) m n layers ⌝ }
     ensures { λ r. ⌜ LeastCost (now (w .entry)) (4 * m) 1 (rootBranches (now (w .entry))) layers (getD (now (w .entry)) m 0) r ⌝ }
 {
     let end = at(w, 0);
     let pins = at(w, m) as u32;
-    let c = tile_costs(w, 4 * m, 1, end - 1, layers, pins);
+    let c = tile_costs(w, 4 * m, 1, end - 1, layers, pins, chart);
     least_cost(&c, layers)
 }

@@ -170,13 +170,18 @@ module _ (w : List ℕ) (o first k base goal : ℕ) (few : k ≤ 3) (small : bas
     cost-is : combinationCost w o first k base (a + 1) (b + 1) (c + 1) ≡ spanOf m₃ + (p + (q + r))
     cost-is = cost-parts w o first k base a b c few ∙ rw (← masks, ← ep, ← eq, ← er) refl
 
-    pub test-yes : (t : Bool) → t ≡ eqb (spanOf m₃ + r) (goal - p - q) → t ≡ true → combinationCost w o first k base (a + 1) (b + 1) (c + 1) ≡ goal
+    test-yes : (t : Bool) → t ≡ eqb (spanOf m₃ + r) (goal - p - q) → t ≡ true → combinationCost w o first k base (a + 1) (b + 1) (c + 1) ≡ goal
     test-yes t e h =
         let x = eqb→eq (spanOf m₃ + r) (goal - p - q) (subst (λ (u : Bool). T u) (sym (sym e ∙ h)) tt) in
         omega (arith, cost-is, x, hp, hq)
 
-    pub test-no : (t : Bool) → t ≡ eqb (spanOf m₃ + r) (goal - p - q) → t ≡ false → combinationCost w o first k base (a + 1) (b + 1) (c + 1) ≢ goal
+    test-no : (t : Bool) → t ≡ eqb (spanOf m₃ + r) (goal - p - q) → t ≡ false → combinationCost w o first k base (a + 1) (b + 1) (c + 1) ≢ goal
     test-no t e h x =
         let y : spanOf m₃ + r ≡ goal - p - q = omega (arith, cost-is, x, hp, hq) in
         let z : false ≡ true = sym h ∙ e ∙ eqb-true (spanOf m₃ + r) (goal - p - q) y in
         subst (λ (u : Bool). T u) (sym z) tt
+
+    -- the code's test tells whether the combination costs the goal
+    pub tested : (t : Bool) → t ≡ eqb (spanOf m₃ + r) (goal - p - q)
+        → (t ≡ true → combinationCost w o first k base (a + 1) (b + 1) (c + 1) ≡ goal) × (t ≡ false → combinationCost w o first k base (a + 1) (b + 1) (c + 1) ≢ goal)
+    tested t e = (test-yes t e, test-no t e)

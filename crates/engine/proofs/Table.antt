@@ -12,7 +12,6 @@ use Rattle.model.specs.Lists.{upFrom}
 use Rattle.model.specs.Job.{Net, Job}
 use Rattle.model.specs.Layering.{IsChoice}
 use Rattle.model.specs.Walk.{walk}
-use Rattle.model.specs.Plan.{placed, legal}
 use Rattle.theory.specs.congestion.Sums.{In, lt-or-ge}
 use Rattle.theory.specs.congestion.Base.{in-upFrom}
 use Rattle.theory.specs.engine.Stages.{IsLeast, IsFirst, bestOf, choice-take, choice-drop}
@@ -23,8 +22,7 @@ use Rattle.theory.specs.engine.Loops.{Reach, comb, Turn, TurnLeast, FirstTurn, 
 use Rattle.theory.specs.engine.Places.{RowsAt, TableAt, kidsOf, IsWalk}
 use Rattle.theory.specs.engine.Bounds.{root-bound}
 use Rattle.theory.specs.links.Nets.{NetOk}
-use Rattle.theory.specs.links.Best.{LegalFor, inWalk}
-use Rattle.theory.specs.links.Engine.{kidsAt, firstAt, pinsAt, viasAt, walk-by-place, kids-few, kids-are, legal-iff, legal-choice, legal-rising, rows-small, loops-row, loops-choice, via-costs, pins-cover, stopAt}
+use Rattle.theory.specs.links.Engine.{kidsAt, firstAt, pinsAt, viasAt, walk-by-place, kids-few, kids-are, rows-small, loops-row, loops-choice, price-costs, pins-cover, stopAt}
 use Rattle.costs.specs.Mask.{has, withLayer, maskOf, spanOf, mask-price}
 use Rattle.costs.specs.Rows.{illegalCost, rowAt, combinationCost, layersTried, LeastCost, RowEntry, firstIn, branchesIn, Shape, RowsFrom}
 use Rattle.engine.specs.Net.{Holds}
@@ -68,7 +66,7 @@ turn-low K n₁ n₂ n₃ cs reach cost top v t z g =
 
 -- ---- the net in the slice
 
-module _ (j : Job) (n : Net) (plan : List (List ℕ)) (w : List ℕ) (m : ℕ) (holds : Holds j n plan w m (suc (length (n .edges))) (j .layers)) where
+module _ (j : Job) (n : Net) (allowed : ℕ → List ℕ) (w : List ℕ) (m : ℕ) (holds : Holds j n allowed w m (suc (length (n .edges))) (j .layers)) where
   abbrev d : ℕ
   d = length (n .edges)
 
@@ -92,9 +90,6 @@ module _ (j : Job) (n : Net) (plan : List (List ℕ)) (w : List ℕ) (m : ℕ) (
 
   abbrev z : List ℕ
   z = holds .choice
-
-  legal-z : LegalFor j (placed j plan) n z
-  legal-z = holds .legal-choice
 
   pub steps : IsWalk (kidsAt j n) (firstAt j n) d ws
   steps = walk-by-place j wide high n ok
@@ -154,7 +149,7 @@ module _ (j : Job) (n : Net) (plan : List (List ℕ)) (w : List ℕ) (m : ℕ) (
         (subst (λ (x : ℕ). RowEntry w′ (4 * m) (firstIn w (suc k)) x (j .layers) (mask (suc k)) (getD w (2 * m + suc k) 0) l (f (suc k) l)) (kids-is (suc k) (omega arith) h)
         (rows .rows (suc k) (omega arith) (omega arith) l p q))
 
-    marks : (k : ℕ) → k < d → (l : ℕ) → 1 ≤ l → l ≤ j .layers → In l (legal j plan (getD ws k 0)) ⊎ (illegalCost ≤ f (suc k) l)
+    marks : (k : ℕ) → k < d → (l : ℕ) → 1 ≤ l → l ≤ j .layers → In l (allowed (getD ws k 0)) ⊎ (illegalCost ≤ f (suc k) l)
     marks k h l p q = ⊎-elim (λ t. inl (holds .into k h l p q t)) (λ t. inr t) (row-at k h l p q .mark)
 
     -- One tile: `above` is the layer above it, if it has one.
@@ -198,56 +193,53 @@ module _ (j : Job) (n : Net) (plan : List (List ℕ)) (w : List ℕ) (m : ℕ) (
       kids-long : length (tileKids i) ≡ kidsAt j n i
       kids-long = ap length (kids-are j wide high n ok i h)
 
-      sub : (e l : ℕ) → In l (legal j plan e) → In l (upFrom 1 (j .layers))
-      sub e l q = let r = legal-iff j wide high n ok plan e l .0 q in in-upFrom l 1 (j .layers) .1 (r .0, omega (arith, r .1))
+      sub : (e l : ℕ) → In l (allowed e) → In l (upFrom 1 (j .layers))
+      sub e l q = let r = holds .inside e l q in in-upFrom l 1 (j .layers) .1 (r .0, omega (arith, r .1))
 
       -- no legal choice costs less
       low-all : (v : ℕ) → LeastCost w′ (4 * m) (firstAt j n i) (kidsAt j n i) (j .layers) base v
-          → (y : List ℕ) → IsChoice (legal j plan) (tileKids i) y → v ≤ tileWorth i above y
+          → (y : List ℕ) → IsChoice allowed (tileKids i) y → v ≤ tileWorth i above y
       low-all v t y g =
           turn-low (j .layers) n₁ n₂ n₃ (tileKids i) (subst (λ (k : ℕ). Reach (j .layers) k n₁ n₂ n₃) (sym kids-long) reach) (tileWorth i above) illegalCost v
           (subst (λ (k : ℕ). TurnLeast n₁ n₂ n₃ (λ a b c. tileWorth i above (comb k a b c)) illegalCost v) (sym kids-long) (turn-least v t))
-          y (choice-wide (legal j plan) (λ e. upFrom 1 (j .layers)) sub f illegalCost (tileKids i) y g)
+          y (choice-wide allowed (λ e. upFrom 1 (j .layers)) sub f illegalCost (tileKids i) y g)
 
       -- the least combination is the tile's least
       pub tile-row : (v : ℕ) → v < illegalCost → LeastCost w′ (4 * m) (firstAt j n i) (kidsAt j n i) (j .layers) base v
-          → IsLeast (legal j plan) (tileKids i) (tileWorth i above) v
+          → IsLeast allowed (tileKids i) (tileWorth i above) v
       tile-row v small t =
-          loops-row j wide high n ok plan f illegalCost i h (λ k a b l p q. marks k b l p q) above n₁ n₂ n₃ reach v small (turn-least v t)
+          loops-row j wide high n ok (λ x. x) allowed (holds .rising) (holds .inside) f illegalCost i h (λ k a b l p q. marks k b l p q) above n₁ n₂ n₃ reach v small (turn-least v t)
 
       -- and the first combination that has it is what the branches take
       pub tile-choice : (v : ℕ) → v < illegalCost → LeastCost w′ (4 * m) (firstAt j n i) (kidsAt j n i) (j .layers) base v → (a b c : ℕ)
           → FirstTurn n₁ n₂ n₃ (combinationCost w′ (4 * m) (firstAt j n i) (kidsAt j n i) base) v a b c
-          → IsFirst (legal j plan) (tileKids i) (tileWorth i above) v (comb (kidsAt j n i) a b c)
+          → IsFirst allowed (tileKids i) (tileWorth i above) v (comb (kidsAt j n i) a b c)
       tile-choice v small t a b c q =
-          loops-choice j wide high n ok plan f illegalCost i h (λ k x y l p r. marks k y l p r) above n₁ n₂ n₃ reach v small (turn-least v t) a b c
+          loops-choice j wide high n ok (λ x. x) allowed (holds .rising) (holds .inside) f illegalCost i h (λ k x y l p r. marks k y l p r) above n₁ n₂ n₃ reach v small (turn-least v t) a b c
           (record {
             turn = q .turn;
             costs = cost-is a b c (q .turn) ∙ q .costs;
             none = λ a′ b′ c′ u s e. q .none a′ b′ c′ u s (sym (cost-is a′ b′ c′ u) ∙ e);
           })
 
-    walk-z : IsChoice (legal j plan) ws (inWalk j n z)
-    walk-z = legal-choice j wide high n ok plan z legal-z
+    kids-z : (i : ℕ) → IsChoice allowed (tileKids i) (kidsOf (kidsAt j n) (firstAt j n) z i)
+    kids-z i = choice-take allowed (kidsAt j n i) _ _ (choice-drop allowed (firstAt j n i - 1) ws z (holds .valid))
 
-    kids-z : (i : ℕ) → IsChoice (legal j plan) (tileKids i) (kidsOf (kidsAt j n) (firstAt j n) (inWalk j n z) i)
-    kids-z i = choice-take (legal j plan) (kidsAt j n i) _ _ (choice-drop (legal j plan) (firstAt j n i - 1) ws (inWalk j n z) walk-z)
-
-    best-of : (i : ℕ) (above : List ℕ) → IsLeast (legal j plan) (tileKids i) (tileWorth i above) (tileWorth i above (bestOf (legal j plan) (tileWorth i above) (tileKids i)))
-    best-of i above = least-exists (legal j plan) (tileKids i) (tileWorth i above) (kidsOf (kidsAt j n) (firstAt j n) (inWalk j n z) i) (kids-z i)
+    best-of : (i : ℕ) (above : List ℕ) → IsLeast allowed (tileKids i) (tileWorth i above) (tileWorth i above (bestOf allowed (tileWorth i above) (tileKids i)))
+    best-of i above = least-exists allowed (tileKids i) (tileWorth i above) (kidsOf (kidsAt j n) (firstAt j n) z i) (kids-z i)
 
     under : (a b : ℕ) → a ≤ 65536 → b ≤ 7 → a * b < illegalCost
     under a b p q = omega (arith, mul-le-mul p q)
 
-    one-row : (k : ℕ) → k < d → RowsAt (kidsAt j n) (firstAt j n) (viasAt j n) (legal j plan) d ws f (suc k) → (r : ℕ) → In r (legal j plan (getD ws k 0))
-        → IsLeast (legal j plan) (tileKids (suc k)) (tileWorth (suc k) (r ∷ [])) (f (suc k) r)
+    one-row : (k : ℕ) → k < d → RowsAt (kidsAt j n) (firstAt j n) (viasAt j n) allowed d ws f (suc k) → (r : ℕ) → In r (allowed (getD ws k 0))
+        → IsLeast allowed (tileKids (suc k)) (tileWorth (suc k) (r ∷ [])) (f (suc k) r)
     one-row k h ih r i =
-        let q = legal-iff j wide high n ok plan (getD ws k 0) r .0 i in
-        finish (tileWorth (suc k) (r ∷ []) (bestOf (legal j plan) (tileWorth (suc k) (r ∷ [])) (tileKids (suc k)))) (q .0) (q .1) (row-at k h r (q .0) (q .1) .least (holds .back k h r i)) (best-of (suc k) (r ∷ []))
+        let q = holds .inside (getD ws k 0) r i in
+        finish (tileWorth (suc k) (r ∷ []) (bestOf allowed (tileWorth (suc k) (r ∷ [])) (tileKids (suc k)))) (q .0) (q .1) (row-at k h r (q .0) (q .1) .least (holds .back k h r i)) (best-of (suc k) (r ∷ []))
       where
         finish : (u : ℕ) → 1 ≤ r → r ≤ j .layers → LeastCost w′ (4 * m) (firstAt j n (suc k)) (kidsAt j n (suc k)) (j .layers) (withLayer (mask (suc k)) r) (f (suc k) r)
-            → IsLeast (legal j plan) (tileKids (suc k)) (tileWorth (suc k) (r ∷ [])) u
-            → IsLeast (legal j plan) (tileKids (suc k)) (tileWorth (suc k) (r ∷ [])) (f (suc k) r)
+            → IsLeast allowed (tileKids (suc k)) (tileWorth (suc k) (r ∷ [])) u
+            → IsLeast allowed (tileKids (suc k)) (tileWorth (suc k) (r ∷ [])) (f (suc k) r)
         finish u p q t l =
             let cov : Covers 1 8 (r ∷ []) = covers-cons 1 8 r [] p (omega (arith, q, deep)) (covers-none 1 8) in
             tile-row (suc k) h (r ∷ []) cov (f (suc k) r)
@@ -255,37 +247,37 @@ module _ (j : Job) (n : Net) (plan : List (List ℕ)) (w : List ℕ) (m : ℕ) (
               arith,
               low-all (suc k) h (r ∷ []) cov (f (suc k) r) t (l .choice) (l .valid),
               l .costs,
-              rows-small j wide high n ok plan f z legal-z k h ih r u p q l,
+              rows-small j wide high n ok (λ x. x) allowed (holds .rising) (holds .inside) (λ a b g. g) f z (holds .valid) k h ih r u p q l,
               under (d - k) (j .layers - 1) (omega (arith, holds .fits, holds .small)) (omega (arith, deep)),
             )) t
 
-    rows-down : (t k : ℕ) → k + t ≡ d → RowsAt (kidsAt j n) (firstAt j n) (viasAt j n) (legal j plan) d ws f k
+    rows-down : (t k : ℕ) → k + t ≡ d → RowsAt (kidsAt j n) (firstAt j n) (viasAt j n) allowed d ws f k
     rows-down zero k e i p q r s = absurd (omega arith)
     rows-down (suc t) k e i p q r s = go (rows-down t (suc k) (omega arith)) (lt-or-ge k i)
       where
-        go : RowsAt (kidsAt j n) (firstAt j n) (viasAt j n) (legal j plan) d ws f (suc k) → (k < i) ⊎ (i ≤ k)
-            → IsLeast (legal j plan) (tileKids (suc i)) (tileWorth (suc i) (r ∷ [])) (f (suc i) r)
+        go : RowsAt (kidsAt j n) (firstAt j n) (viasAt j n) allowed d ws f (suc k) → (k < i) ⊎ (i ≤ k)
+            → IsLeast allowed (tileKids (suc i)) (tileWorth (suc i) (r ∷ [])) (f (suc i) r)
         go ih (inl c) = ih i c q r s
         go ih (inr c) = one-row i q (λ i′ p′ q′. ih i′ (omega arith) q′) r s
 
     -- the rows that the loops wrote are the net's
-    pub rows-at : RowsAt (kidsAt j n) (firstAt j n) (viasAt j n) (legal j plan) d ws f 0
+    pub rows-at : RowsAt (kidsAt j n) (firstAt j n) (viasAt j n) allowed d ws f 0
     rows-at = rows-down d 0 (omega arith)
 
     -- and with the root's least they are its table
     pub table-at : (v : ℕ) → LeastCost w′ (4 * m) (firstAt j n 0) (kidsAt j n 0) (j .layers) (mask 0) v
-        → TableAt (kidsAt j n) (firstAt j n) (viasAt j n) (legal j plan) d ws f v × (v < illegalCost)
-    table-at v t = finish (tileWorth 0 [] (bestOf (legal j plan) (tileWorth 0 []) (tileKids 0))) (best-of 0 [])
+        → TableAt (kidsAt j n) (firstAt j n) (viasAt j n) allowed d ws f v × (v < illegalCost)
+    table-at v t = finish (tileWorth 0 [] (bestOf allowed (tileWorth 0 []) (tileKids 0))) (best-of 0 [])
       where
-        finish : (u : ℕ) → IsLeast (legal j plan) (tileKids 0) (tileWorth 0 []) u
-            → TableAt (kidsAt j n) (firstAt j n) (viasAt j n) (legal j plan) d ws f v × (v < illegalCost)
+        finish : (u : ℕ) → IsLeast allowed (tileKids 0) (tileWorth 0 []) u
+            → TableAt (kidsAt j n) (firstAt j n) (viasAt j n) allowed d ws f v × (v < illegalCost)
         finish u l =
             let small : v < illegalCost = omega (
               arith,
               low-all 0 (omega arith) [] (covers-none 1 8) v t (l .choice) (l .valid),
               l .costs,
-              root-bound (kidsAt j n) (viasAt j n) 1 (j .layers) (j .layers - 1) (via-costs j wide high n ok) (firstAt j n) d ws steps
-                  (legal j plan) (legal-rising j wide high n ok plan) (λ e l i. let q = legal-iff j wide high n ok plan e l .0 i in (q .0, q .1)) f (inWalk j n z) walk-z
+              root-bound (kidsAt j n) (viasAt j n) 1 (j .layers) (j .layers - 1) (price-costs j wide high n ok (λ x. x) (λ a b g. g)) (firstAt j n) d ws steps
+                  allowed (holds .rising) (holds .inside) f z (holds .valid)
                   u (record { root = l; rows = rows-at }),
               under (suc d) (j .layers - 1) (omega (arith, holds .fits, holds .small)) (omega (arith, deep)),
             ) in

@@ -9,7 +9,7 @@ ghost use lib.ListN.{getD};
 ghost use lib.Seq.{sets};
 ghost use Rattle.model.specs.Job.{Job, Net};
 ghost use Rattle.theory.specs.engine.Loops.{comb, HasTurn, FirstTurn};
-ghost use Rattle.costs.specs.Mask.{spanOf};
+ghost use Rattle.costs.specs.Mask.{spanOf, Charted};
 ghost use Rattle.costs.specs.Rows.{illegalCost, combinationCost, layersTried, Shape, RowsFrom};
 ghost use Rattle.engine.specs.Layers.{branchCost, branchMask, Attained, FirstCombination, FirstWritten, RootLeast, RootReady, RootChosen, TileReady, TileChosen, ChosenUpTo};
 ghost use Rattle.engine.specs.Net.{Holds, HoldsNet, Placed};
@@ -44,25 +44,27 @@ fn branch_mask(mask: u32, k: usize, c: usize, l: usize) -> u32
 }
 
 // The cost and the vias of the set make just `goal`.
-fn reaches(goal: u32, cost: u32, mask: u32) -> bool
+fn reaches(chart: &[u32; 256], goal: u32, cost: u32, mask: u32) -> bool
+    requires { ⌜ Charted spanOf (now chart) ⌝ }
     requires { ⌜ mask < 256 ⌝ }
     ensures { λ r. ⌜ r ≡ eqb (spanOf mask + cost) goal ⌝ }
 {
     if goal < cost {
         return false;
     }
-    costs::span(mask) == goal - cost
+    costs::span(chart, mask) == goal - cost
 }
 
 // The cost and the vias of the set are over `goal`: so is every combination that adds to them.
-fn exceeds(goal: u32, cost: u32, mask: u32) -> bool
+fn exceeds(chart: &[u32; 256], goal: u32, cost: u32, mask: u32) -> bool
+    requires { ⌜ Charted spanOf (now chart) ⌝ }
     requires { ⌜ mask < 256 ⌝ }
     ensures { λ r. ⌜ r ≡ ltb goal (spanOf mask + cost) ⌝ }
 {
     if goal < cost {
         return true;
     }
-    goal - cost < costs::span(mask)
+    goal - cost < costs::span(chart, mask)
 }
 
 struct Combination {
@@ -83,7 +85,9 @@ fn first_combination(
     n2: usize,
     n3: usize,
     goal: u32,
+    chart: &[u32; 256],
 ) -> Combination
+    requires { ⌜ Charted spanOf (now chart) ⌝ }
     requires { ⌜ k ≤ 3 ⌝ }
     requires { ⌜ base < 256 ⌝ }
     requires { ⌜ (n1 ≤ 8) × (n2 ≤ 8) × (n3 ≤ 8) ⌝ }
@@ -98,19 +102,19 @@ fn first_combination(
     'search: for a in 0..n1 {
         let p = branch_cost(w, o, first, k, 0, a);
         let m1 = branch_mask(base, k, 0, a);
-        if exceeds(goal, p, m1) {
+        if exceeds(chart, goal, p, m1) {
             continue;
         }
         for b in 0..n2 {
             let q = branch_cost(w, o, first, k, 1, b);
             let m2 = branch_mask(m1, k, 1, b);
-            if exceeds(goal - p, q, m2) {
+            if exceeds(chart, goal - p, q, m2) {
                 continue;
             }
             for c in 0..n3 {
                 let r = branch_cost(w, o, first, k, 2, c);
                 let m3 = branch_mask(m2, k, 2, c);
-                if reaches(goal - p - q, r, m3) {
+                if reaches(chart, goal - p - q, r, m3) {
                     x = a + 1;
                     y = b + 1;
                     z = c + 1;
@@ -143,7 +147,9 @@ fn combination_of(
     layers: usize,
     base: u32,
     goal: u32,
+    chart: &[u32; 256],
 ) -> Combination
+    requires { ⌜ Charted spanOf (now chart) ⌝ }
     requires { ⌜ k ≤ 3 ⌝ }
     requires { ⌜ base < 256 ⌝ }
     requires { ⌜ (1 ≤ layers) × (layers ≤ 8) ⌝ }
@@ -155,7 +161,7 @@ fn combination_of(
     let n1 = layers_tried(1, k, layers);
     let n2 = layers_tried(2, k, layers);
     let n3 = layers_tried(3, k, layers);
-    first_combination(w, o, first, k, base, n1, n2, n3, goal)
+    first_combination(w, o, first, k, base, n1, n2, n3, goal, chart)
 }
 
 // ---- the choice of layers
@@ -192,7 +198,9 @@ fn choose_branches(
     layers: usize,
     base: u32,
     goal: u32,
+    chart: &[u32; 256],
 )
+    requires { ⌜ Charted spanOf (now chart) ⌝ }
     requires { ⌜ k ≤ 3 ⌝ }
     requires { ⌜ base < 256 ⌝ }
     requires { ⌜ (1 ≤ layers) × (layers ≤ 8) ⌝ }
@@ -205,27 +213,28 @@ fn choose_branches(
     let at = 3 * m + first;
     if layers == 8 {
         if k == 1 {
-            let t = combination_of(w, o, first, 1, 8, base, goal);
+            let t = combination_of(w, o, first, 1, 8, base, goal, chart);
             put_layers(w, at, 1, t.a, t.b, t.c);
             return;
         }
         if k == 2 {
-            let t = combination_of(w, o, first, 2, 8, base, goal);
+            let t = combination_of(w, o, first, 2, 8, base, goal, chart);
             put_layers(w, at, 2, t.a, t.b, t.c);
             return;
         }
         if k == 3 {
-            let t = combination_of(w, o, first, 3, 8, base, goal);
+            let t = combination_of(w, o, first, 3, 8, base, goal, chart);
             put_layers(w, at, 3, t.a, t.b, t.c);
             return;
         }
     }
-    let t = combination_of(w, o, first, k, layers, base, goal);
+    let t = combination_of(w, o, first, k, layers, base, goal, chart);
     put_layers(w, at, k, t.a, t.b, t.c);
 }
 
 // Chooses the layers of the branches of tile i, which is not the root and has its own layer already.
-fn choose_below(w: &mut [u32], m: usize, i: usize, layers: usize)
+fn choose_below(w: &mut [u32], m: usize, i: usize, layers: usize, chart: &[u32; 256])
+    requires { ⌜ Charted spanOf (now chart) ⌝ }
     requires { ⌜ TileReady (now w) m i layers ⌝ }
     requires { ⌜ (m ≤ 65536) × (1 ≤ i) × (i < m) × (1 ≤ layers) × (layers ≤ 8) ⌝ }
     requires { do ⌜ 12 * m ≤ (← ⟦w.len()⟧) ⌝ }
@@ -239,11 +248,12 @@ fn choose_below(w: &mut [u32], m: usize, i: usize, layers: usize)
     let l = costs::at(w, 3 * m + i);
     let goal = costs::at(w, 4 * m + 8 * i + (l - 1)) as u32;
     let base = costs::with_layer(costs::at(w, m + i) as u32, l);
-    choose_branches(w, m, first, end - first, layers, base, goal);
+    choose_branches(w, m, first, end - first, layers, base, goal, chart);
 }
 
 // Chooses the layers of the root's branches. The root has no layer above it.
-fn choose_root(w: &mut [u32], m: usize, layers: usize, goal: u32)
+fn choose_root(w: &mut [u32], m: usize, layers: usize, goal: u32, chart: &[u32; 256])
+    requires { ⌜ Charted spanOf (now chart) ⌝ }
     requires { ⌜ RootReady (now w) m layers goal ⌝ }
     requires { ⌜ (m ≤ 65536) × (1 ≤ m) × (1 ≤ layers) × (layers ≤ 8) ⌝ }
     requires { do ⌜ 12 * m ≤ (← ⟦w.len()⟧) ⌝ }
@@ -251,35 +261,37 @@ fn choose_root(w: &mut [u32], m: usize, layers: usize, goal: u32)
 {
     let end = costs::at(w, 0);
     let pins = costs::at(w, m) as u32;
-    choose_branches(w, m, 1, end - 1, layers, pins, goal);
+    choose_branches(w, m, 1, end - 1, layers, pins, goal, chart);
 }
 
 // Chooses the layers of all edges from the cost rows, the root's branches first, and returns the least cost of the root. There must be a way:
 // that cost is below the cost of an illegal layer.
-pub fn choose(w: &mut [u32], m: usize, n: usize, layers: usize) -> u32
+pub fn choose(w: &mut [u32], m: usize, n: usize, layers: usize, chart: &[u32; 256]) -> u32
+    requires { ⌜ Charted spanOf (now chart) ⌝ }
     requires { ⌜ Shape (now w) m n layers ⌝ }
     requires { ⌜ RowsFrom (now w) (now w) m n layers 1 ⌝ }
     requires { ⌜ ((v : ℕ) → RootLeast (now w) m layers v → v < illegalCost) ⌝ }
     ensures { λ r. ⌜ RootLeast (now (w .entry)) m layers r ⌝ }
     ensures { λ r. ⌜ ChosenUpTo (now (w .entry)) (now (w .exit)) m n layers r n ⌝ }
 {
-    let least = costs::root_least(w, m, n, layers);
-    choose_root(w, m, layers, least);
+    let least = costs::root_least(w, m, n, layers, chart);
+    choose_root(w, m, layers, least, chart);
     let mut i = 1;
     while i < n {
-        choose_below(w, m, i, layers);
+        choose_below(w, m, i, layers, chart);
         i += 1;
     }
     least
 }
 
-// The layers of one net. The caller knows, in its proof, the job, the net and the plan so far, and that the slice holds them (`Holds`): it gives
-// that record once to `requires`, inside a `HoldsNet`, and once more to `ensures`, which answers with `Placed` for this job, net and plan: the
-// layers of the definition from 3m + 1 on, by edge in walk order, and the net's vias as the number returned.
-pub fn place_layers(w: &mut [u32], m: usize, n: usize, layers: usize) -> u32
+// The layers of one net. The caller knows, in its proof, the job, the net and the layers that each edge may have, and that the slice holds them
+// (`Holds`): it gives that record once to `requires`, inside a `HoldsNet`, and once more to `ensures`, which answers with `Placed` for this job, net
+// and layers: the layers of the choice with the fewest vias from 3m + 1 on, by edge in walk order, and these vias as the number returned.
+pub fn place_layers(w: &mut [u32], m: usize, n: usize, layers: usize, chart: &[u32; 256]) -> u32
+    requires { ⌜ Charted spanOf (now chart) ⌝ }
     requires { ⌜ HoldsNet (now w) m n layers ⌝ }
-    ensures { λ r. ⌜ ((j : Job) (net : Net) (plan : List (List ℕ)) → Holds j net plan (now (w .entry)) m n layers → Placed j net plan (now (w .entry)) (now (w .exit)) m r) ⌝ }
+    ensures { λ r. ⌜ ((j : Job) (net : Net) (allowed : ℕ → List ℕ) → Holds j net allowed (now (w .entry)) m n layers → Placed (λ l. l) j net allowed (now (w .entry)) (now (w .exit)) m r) ⌝ }
 {
-    costs::costs(w, m, n, layers);
-    choose(w, m, n, layers)
+    costs::costs(w, m, n, layers, chart);
+    choose(w, m, n, layers, chart)
 }

@@ -3,6 +3,7 @@ use layout::Shape;
 ghost use mathlib.Core.Path.{_≡_};
 ghost use Prim.Native.Nat.{ℕ, _*_, _<_, _≤_};
 ghost use lib.ListN.{length, set};
+ghost use Rattle.costs.specs.Mask.{spanOf, Charted};
 ghost use Rattle.layout.specs.Areas.{areasEnd};
 ghost use Rattle.layout.specs.Shapes.{Shaped};
 ghost use Rattle.layout.specs.Table.{viasColumn, tableSize};
@@ -43,7 +44,9 @@ fn turn_of(
     stamp: u32,
     limit: u32,
     answer: &mut [u8],
+    chart: &[u32; 256],
 ) -> u32
+    requires { ⌜ Charted spanOf (now chart) ⌝ }
     requires { ⌜ Shaped g ⌝ }
     requires { ⌜ (areasEnd g ≤ length (now w)) × (stamp ≤ 8192) × (i < 4096) × (tableSize ≤ length (now table)) ⌝ }
     requires { ⌜ RowTurnSome (now s) g stamp limit (now w) (now table) (length (now answer)) i ⌝ }
@@ -63,6 +66,7 @@ fn turn_of(
         stamp,
         limit,
         &mut answer[from..to],
+        chart,
     );
     table[layout::vias_column(i)] = vias;
     vias
@@ -77,7 +81,9 @@ pub fn place_all(
     n: usize,
     limit: u32,
     answer: &mut [u8],
+    chart: &[u32; 256],
 ) -> u64
+    requires { ⌜ Charted spanOf (now chart) ⌝ }
     requires { ⌜ Shaped g ⌝ }
     requires { ⌜ (areasEnd g ≤ length (now w)) × (n ≤ 4096) × (tableSize ≤ length (now table)) ⌝ }
     requires { ⌜ StartSome (now s) g n limit (now w) (now table) (length (now answer)) ⌝ }
@@ -88,7 +94,7 @@ pub fn place_all(
     for k in 0..n {
         let i = layout::index(table[layout::turn_column(k)]) - 1;
         let stamp = (n + 1 + k) as u32;
-        vias += turn_of(s, w, g, table, i, stamp, limit, answer) as u64;
+        vias += turn_of(s, w, g, table, i, stamp, limit, answer, chart) as u64;
     }
     vias
 }

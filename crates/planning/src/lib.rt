@@ -118,7 +118,8 @@ fn place_nets(s: &[u8], h: Head, w: &mut [u32], table: &mut [u32], answer: &mut 
 {
     let flat = flat::overflows(w, h.shape);
     let limit = flat::limit_of(flat.most, h.shape.k);
-    let vias = placing::place_all(s, w, h.shape, table, h.nets, limit, answer);
+    let chart = costs::chart();
+    let vias = placing::place_all(s, w, h.shape, table, h.nets, limit, answer, &chart);
     Totals {
         vias,
         total: flat.total,

@@ -19,7 +19,10 @@ use Rattle.marks.specs.Marks.{Older}
 use Rattle.marks.specs.Words.{bitOf, bit-is}
 use Rattle.model.specs.Limits.{mostNets}
 use Rattle.model.specs.Lists.{has}
-use Rattle.theory.specs.links.Engine.{pinsAt, stopAt, pins-cover, legal-iff}
+use Rattle.model.specs.Plan.{placed, legal}
+use Rattle.model.specs.Vias.{vias}
+use Rattle.theory.specs.links.Best.{LegalFor, inWalk, cheapest, to-walk, vias-cost, best-walk, best-is, legal-rising, legal-iff, legal-choice}
+use Rattle.theory.specs.links.Engine.{pinsAt, stopAt, pins-cover}
 use Rattle.theory.specs.links.Limits.{capacity-small, limit-small}
 use Rattle.theory.specs.links.Planned.{turn-legal}
 use Rattle.theory.specs.links.Tests.{is-true, has-in}
@@ -112,7 +115,11 @@ module _ (g : Shape) (shaped : Shaped g) (n : ℕ) (w : List ℕ) (room : areasE
     bit-at : (i : ℕ) → i < length (turnNet u .edges) → (l : ℕ) → mask.has (getD (engineOf g w′) (2 * g .t + suc i) 0) l ≡ bitOf (legalMask g w (getD (turnWalk u) i 0) (turnLimit u)) (l - 1)
     bit-at i b l = has-bit (getD (engineOf g w′) (2 * g .t + suc i) 0) l ∙ ap (λ (x : ℕ). bitOf x (l - 1)) (mask-at i b)
 
-    pub holds : Holds (u .job) (turnNet u) (u .plan) (engineOf g w′) (g .t) n (g .k)
+    -- the net has a legal choice
+    some : (z : List ℕ) × LegalFor (u .job) (placed (u .job) (u .plan)) (turnNet u) z
+    some = turn-legal (u .lent) (u .job) (u .accepted) (u .entry) (u .rest) (u .plan) (u .midway)
+
+    pub holds : Holds (u .job) (turnNet u) (legal (u .job) (u .plan)) (engineOf g w′) (g .t) n (g .k)
     holds = record {
       wide = wide u;
       high = high u;
@@ -130,20 +137,22 @@ module _ (g : Shape) (shaped : Shaped g) (n : ℕ) (w : List ℕ) (room : areasE
           legal-in g (u .job) (u .plan) w (h .so-far) (h .grid .layers) (getD (turnWalk u) i 0) l (edge-in i b) p (omega (arith, h .grid .layers)) .0
           (sym (bit-at i b l) ∙ is-true (mask.has (getD (engineOf g w′) (2 * g .t + suc i) 0) l) t);
       back = λ i b l k.
-          let r = legal-iff (u .job) (wide u) (high u) (turnNet u) (net-ok u) (u .plan) (getD (turnWalk u) i 0) l .0 k in
+          let r = legal-iff (u .job) (u .plan) (getD (turnWalk u) i 0) l .0 k in
           subst T
           (sym (bit-at i b l ∙ legal-in g (u .job) (u .plan) w (h .so-far) (h .grid .layers) (getD (turnWalk u) i 0) l (edge-in i b) (r .0) (omega (arith, r .1, h .grid .layers)) .1 k)) tt;
-      choice = turn-legal (u .lent) (u .job) (u .accepted) (u .entry) (u .rest) (u .plan) (u .midway) .0;
-      legal-choice = turn-legal (u .lent) (u .job) (u .accepted) (u .entry) (u .rest) (u .plan) (u .midway) .1;
+      rising = legal-rising (u .job) (u .plan);
+      inside = λ e l k. let r = legal-iff (u .job) (u .plan) e l .0 k in (r .0, r .1);
+      choice = inWalk (u .job) (turnNet u) (some .0);
+      valid = to-walk (u .job) (wide u) (high u) (turnNet u) (net-ok u) (legal (u .job) (u .plan)) (λ x. x) (some .0) (legal-choice (u .job) (u .plan) (turnNet u) (some .0) (some .1)) .0;
     }
 
     pub holds-net : HoldsNet (engineOf g w′) (g .t) n (g .k)
-    holds-net = record { job = u .job; net = turnNet u; plan = u .plan; holds = holds }
+    holds-net = record { job = u .job; net = turnNet u; allowed = legal (u .job) (u .plan); holds = holds }
 
     -- ---- the choice
 
     module _ (w″ : List ℕ) (r : ℕ) (o : Outside (engineAt g) (12 * g .t) w′ w″)
-        (placed : Placed (u .job) (turnNet u) (u .plan) (engineOf g w′) (engineOf g w″) (g .t) r) where
+        (placed-net : Placed (λ x. x) (u .job) (turnNet u) (legal (u .job) (u .plan)) (engineOf g w′) (engineOf g w″) (g .t) r) where
       whole : Outside (engineAt g) (12 * g .t) w w″
       whole =
           outside-then (engineAt g) (12 * g .t) w w′ w″
@@ -168,7 +177,8 @@ module _ (g : Shape) (shaped : Shaped g) (n : ℕ) (w : List ℕ) (room : areasE
           ap (λ (k : ℕ). part (layersAt g + 1) k w″) last
           ∙ ap (λ (a : ℕ). part a (length (turnNet u .edges)) w″) (sym p)
           ∙ sym (slice-part (engineAt g) (12 * g .t) (3 * g .t + 1) (length (turnNet u .edges)) w″ (omega (arith, fit)) (omega (arith, whole .long)))
-          ∙ placed .layers
+          ∙ placed-net .layers
+          ∙ sym (best-walk (u .job) (u .plan) (turnNet u))
 
       pub net-chosen : NetChosen g stamp n w″ u × (r ≡ turnVias u)
       net-chosen = (
@@ -181,7 +191,8 @@ module _ (g : Shape) (shaped : Shaped g) (n : ℕ) (w : List ℕ) (room : areasE
           so-far = so-far-low g w w″ (outside-low g (engineAt g) (12 * g .t) w w″ (omega arith) whole) (u .job) _ _ (h .so-far);
           older = subst (Older (suc stamp)) (sym (part-outside (engineAt g) (12 * g .t) w w″ whole (tilesAt g) (g .t) (inl (omega arith)))) (h .older);
         },
-        placed .net-vias,
+        placed-net .cost ∙ sym (vias-cost (u .job) (turnNet u .pins) (turnNet u .edges) (cheapest (legal (u .job) (u .plan)) (λ x. x) (u .job) (turnNet u)))
+            ∙ ap (vias (u .job) (turnNet u .pins) (turnNet u .edges)) (sym (best-is (u .job) (u .plan) (turnNet u))),
       )
 
       pub chosen-long : length w″ ≡ length w

@@ -23,20 +23,20 @@ module _ (g : Shape) (n : ℕ) (w : List ℕ) (room : areasEnd g ≤ length w) (
   lent-holds = subst (λ (p : List ℕ). HoldsNet p (g .t) n (g .k)) (sym lent) there
 
   module _ (p : List ℕ) (v : ℕ)
-      (placed : (j : Job) (net : Net) (plan : List (List ℕ)) → Holds j net plan (take (to - from) (drop from w)) (g .t) n (g .k) → Placed j net plan (take (to - from) (drop from w)) p (g .t) v) where
-    of-part : (j : Job) (net : Net) (plan : List (List ℕ)) → Holds j net plan (engineOf g w) (g .t) n (g .k) → Placed j net plan (engineOf g w) p (g .t) v
-    of-part j net plan h =
-        subst (λ (q : List ℕ). Placed j net plan q p (g .t) v) lent (placed j net plan (subst (λ (q : List ℕ). Holds j net plan q (g .t) n (g .k)) (sym lent) h))
+      (placed : (j : Job) (net : Net) (allowed : ℕ → List ℕ) → Holds j net allowed (take (to - from) (drop from w)) (g .t) n (g .k) → Placed (λ l. l) j net allowed (take (to - from) (drop from w)) p (g .t) v) where
+    of-part : (j : Job) (net : Net) (allowed : ℕ → List ℕ) → Holds j net allowed (engineOf g w) (g .t) n (g .k) → Placed (λ l. l) j net allowed (engineOf g w) p (g .t) v
+    of-part j net allowed h =
+        subst (λ (q : List ℕ). Placed (λ l. l) j net allowed q p (g .t) v) lent (placed j net allowed (subst (λ (q : List ℕ). Holds j net allowed q (g .t) n (g .k)) (sym lent) h))
 
     long : length p ≡ 12 * g .t
-    long = of-part (there .job) (there .net) (there .plan) (there .holds) .long ∙ part-long (engineAt g) (12 * g .t) w (omega arith)
+    long = of-part (there .job) (there .net) (there .allowed) (there .holds) .long ∙ part-long (engineAt g) (12 * g .t) w (omega arith)
 
     back : engineOf g (putMid from (to - from) w p) ≡ p
     back = put-part (engineAt g) (12 * g .t) w from to from-is to-is p (omega arith) long
 
-    pub put-back : ((j : Job) (net : Net) (plan : List (List ℕ)) → Holds j net plan (engineOf g w) (g .t) n (g .k)
-        → Placed j net plan (engineOf g w) (engineOf g (putMid from (to - from) w p)) (g .t) v) × Outside (engineAt g) (12 * g .t) w (putMid from (to - from) w p)
+    pub put-back : ((j : Job) (net : Net) (allowed : ℕ → List ℕ) → Holds j net allowed (engineOf g w) (g .t) n (g .k)
+        → Placed (λ l. l) j net allowed (engineOf g w) (engineOf g (putMid from (to - from) w p)) (g .t) v) × Outside (engineAt g) (12 * g .t) w (putMid from (to - from) w p)
     put-back = (
-      λ j net plan h. subst (λ (q : List ℕ). Placed j net plan (engineOf g w) q (g .t) v) (sym back) (of-part j net plan h),
+      λ j net allowed h. subst (λ (q : List ℕ). Placed (λ l. l) j net allowed (engineOf g w) q (g .t) v) (sym back) (of-part j net allowed h),
       put-outside (engineAt g) (12 * g .t) w from to from-is to-is p (omega arith) long,
     )

@@ -5,6 +5,7 @@ ghost use mathlib.Core.List.{List};
 ghost use mathlib.Core.Path.{_≡_};
 ghost use Prim.Native.Nat.{ℕ, _*_, _≤_};
 ghost use lib.ListN.{length};
+ghost use Rattle.costs.specs.Mask.{spanOf, Charted};
 ghost use Rattle.engine.specs.Net.{Holds, HoldsNet, Placed};
 ghost use Rattle.layout.specs.Areas.{chosenAt, engineAt, areasEnd};
 ghost use Rattle.layout.specs.Parts.{Outside};
@@ -33,16 +34,17 @@ fn put_legal(w: &mut [u32], g: Shape, n: usize, limit: u32)
 }
 
 // Chooses the layers of the net with n tiles that stands in the engine's part. Its vias.
-fn place(w: &mut [u32], g: Shape, n: usize) -> u32
+fn place(w: &mut [u32], g: Shape, n: usize, chart: &[u32; 256]) -> u32
+    requires { ⌜ Charted spanOf (now chart) ⌝ }
     requires { ⌜ Shaped g ⌝ }
     requires { ⌜ areasEnd g ≤ length (now w) ⌝ }
     requires { ⌜ HoldsNet (engineOf g (now w)) (g .t) n (g .k) ⌝ }
-    ensures { λ r. ⌜ ((j : Job) (net : Net) (plan : List (List ℕ)) → Holds j net plan (engineOf g (now (w .entry))) (g .t) n (g .k) → Placed j net plan (engineOf g (now (w .entry))) (engineOf g (now (w .exit))) (g .t) r) ⌝ }
+    ensures { λ r. ⌜ ((j : Job) (net : Net) (allowed : ℕ → List ℕ) → Holds j net allowed (engineOf g (now (w .entry))) (g .t) n (g .k) → Placed (λ l. l) j net allowed (engineOf g (now (w .entry))) (engineOf g (now (w .exit))) (g .t) r) ⌝ }
     ensures { λ _. ⌜ Outside (engineAt g) (12 * g .t) (now (w .entry)) (now (w .exit)) ⌝ }
 {
     let from = layout::engine_at(g);
     let to = from + 12 * g.t;
-    engine::place_layers(&mut w[from..to], g.t, n, g.k)
+    engine::place_layers(&mut w[from..to], g.t, n, g.k, chart)
 }
 
 // Puts the chosen layers of the edges above the walk places by edge.
@@ -89,7 +91,8 @@ fn read_and_walk(s: &[u8], pins: usize, edges: usize, w: &mut [u32], g: Shape, s
 }
 
 // Chooses the layers of the net with n tiles that is walked. Its vias.
-fn choose_layers(w: &mut [u32], g: Shape, n: usize, limit: u32) -> u32
+fn choose_layers(w: &mut [u32], g: Shape, n: usize, limit: u32, chart: &[u32; 256]) -> u32
+    requires { ⌜ Charted spanOf (now chart) ⌝ }
     requires { ⌜ Shaped g ⌝ }
     requires { ⌜ areasEnd g ≤ length (now w) ⌝ }
     requires { ⌜ WalkedSome g n limit (now w) ⌝ }
@@ -97,7 +100,7 @@ fn choose_layers(w: &mut [u32], g: Shape, n: usize, limit: u32) -> u32
     ensures { λ _. ⌜ length (now (w .exit)) ≡ length (now (w .entry)) ⌝ }
 {
     put_legal(w, g, n, limit);
-    place(w, g, n)
+    place(w, g, n, chart)
 }
 
 // Writes the chosen layers into the net's stretch `out` of the answer list, and puts one more net on them.
@@ -125,7 +128,9 @@ pub fn take_turn(
     stamp: u32,
     limit: u32,
     out: &mut [u8],
+    chart: &[u32; 256],
 ) -> u32
+    requires { ⌜ Charted spanOf (now chart) ⌝ }
     requires { ⌜ Shaped g ⌝ }
     requires { ⌜ (areasEnd g ≤ length (now w)) × (stamp ≤ 8192) ⌝ }
     requires { ⌜ TurnSome (now s) pins edges g stamp limit (now w) (length (now out)) ⌝ }
@@ -133,7 +138,7 @@ pub fn take_turn(
     ensures { λ _. ⌜ length (now (w .exit)) ≡ length (now (w .entry)) ⌝ }
 {
     let n = read_and_walk(s, pins, edges, w, g, stamp);
-    let vias = choose_layers(w, g, n, limit);
+    let vias = choose_layers(w, g, n, limit, chart);
     write_layers(w, g, n, out);
     vias
 }

@@ -12,17 +12,17 @@ use Rattle.costs.proofs.costs.Statement.{statement}
 use Rattle.costs.proofs.costs.Tie as tie
 
 abbrev Inv-loop : tie.InvT-loop
-Inv-loop w₀ m n layers i₀ w i = (1 ≤ i) × (i ≤ n) × (length w ≡ length w₀) × RowsFrom w₀ w m n layers i
+Inv-loop w₀ m n layers chart i₀ w i = (1 ≤ i) × (i ≤ n) × (length w ≡ length w₀) × RowsFrom w₀ w m n layers i
 
 abbrev μ-loop : tie.MeasureT-loop
-μ-loop w₀ m n layers i₀ w i = i
+μ-loop w₀ m n layers chart i₀ w i = i
 
 tile-row-requires : tie.Need-tile-row-requires Inv-loop μ-loop
 tile-row-requires c κs =
     let s = c .before .before .before .before in
     let g = s .args in
     let p = c .before .before .loop in
-    (shape-kept (g .w .now) (p .w) (g .m) (g .n) (g .layers) (p .i) (s .pre) (p .inv .3), (omega arith, omega arith))
+    (s .pre .0, (shape-kept (g .w .now) (p .w) (g .m) (g .n) (g .layers) (p .i) (s .pre .1) (p .inv .3), (omega arith, omega arith)))
 
 loop-again : tie.Need-loop-again Inv-loop μ-loop
 loop-again c =
@@ -33,14 +33,14 @@ loop-again c =
       omega arith,
       omega arith,
       r .kept .0 ∙ p .inv .2,
-      rows-next (g .w .now) (p .w) (r .last .0) (g .m) (g .n) (g .layers) (p .i) (p .i - 1) refl (s .pre) (p .inv .3) (omega arith) (omega arith) (r .ensures),
+      rows-next (g .w .now) (p .w) (r .last .0) (g .m) (g .n) (g .layers) (p .i) (p .i - 1) refl (s .pre .1) (p .inv .3) (omega arith) (omega arith) (r .ensures),
     )
 
 pub costs-spec : {M : Type 1} → statement M
 costs-spec =
     tie.close
     (tie.spec Inv-loop μ-loop
-    (λ c. (c .before .pre .tiles, omega arith, refl, rows-start _ _ _ _))
+    (λ c. (c .before .pre .1 .tiles, omega arith, refl, rows-start _ _ _ _))
     (λ c. search needs)
     tile-row-requires
     (λ c. search needs)

@@ -13,10 +13,10 @@ use Rattle.costs.proofs.leaf_costs.Statement.{statement}
 use Rattle.costs.proofs.leaf_costs.Tie as tie
 
 abbrev Inv-loop : tie.InvT-loop
-Inv-loop pins c₀ l₀ c l = Eight c (λ t. spanOf (withLayer pins (suc t))) 0 l
+Inv-loop chart pins c₀ l₀ c l = Eight c (λ t. spanOf (withLayer pins (suc t))) 0 l
 
 abbrev μ-loop : tie.MeasureT-loop
-μ-loop pins c₀ l₀ c l = 8 - l
+μ-loop chart pins c₀ l₀ c l = 8 - l
 
 loop-again : tie.Need-loop-again Inv-loop μ-loop
 loop-again c =

@@ -19,5 +19,5 @@ pub pin-costs-spec : {M : Type 1} → statement M
 pin-costs-spec =
     tie.close
     (tie.spec (λ c κs. search needs) (λ c κs. search needs)
-    (λ c κs. (small-swept _ _ (c .before .before .before .sweep-costs .ensures), small-leaf _ _ (c .before .before .before .before .before .pre .1 .1) (c .before .before .leaf-costs .ensures)))
+    (λ c κs. (small-swept _ _ (c .before .before .before .sweep-costs .ensures), small-leaf _ _ (c .before .before .before .before .before .pre .1 .1 .1) (c .before .before .leaf-costs .ensures)))
     returns)

@@ -1,21 +1,16 @@
--- `span` meets its contract.
+-- `span` meets its contract: the chart has the vias of the set.
 -- Assumes nothing.
 use native.Mathlib.Omega.{arith}
 use borrow.Author.Needs.{needs}
-use Rattle.costs.specs.Mask.{span-none, span-code}
+use Rattle.costs.specs.Mask.{span-le-7}
 use Rattle.costs.proofs.span.Statement.{statement}
 use Rattle.costs.proofs.span.Tie as tie
 
 returns : tie.Need-returns
-returns c = span-none (c .before .args .mask) (c .if1 .taken)
-
-sub-result : tie.Need-sub-result
-sub-result c = span-code (c .before .before .before .args .mask) (c .before .highest .result) (c .lowest .result) (omega arith) (omega arith) (c .before .highest .ensures .0) (c .lowest .ensures .0) .0
-
-returns-2 : tie.Need-returns-2
-returns-2 c =
-    let e = span-code (c .before .before .before .args .mask) (c .before .highest .result) (c .lowest .result) (omega arith) (omega arith) (c .before .highest .ensures .0) (c .lowest .ensures .0) in
-    (e .1, e .2)
+returns c =
+    let s = c .before in
+    let e = s .pre .0 .at (s .args .mask) (s .pre .1) in
+    (e, omega (arith, e, span-le-7 (s .args .mask) (s .pre .1)))
 
 pub span-spec : {M : Type 1} → statement M
-span-spec = tie.close (tie.spec returns (λ c κs. search needs) (λ c κs. search needs) sub-result returns-2)
+span-spec = tie.close (tie.spec (λ c. search needs) (λ c. search needs) returns)

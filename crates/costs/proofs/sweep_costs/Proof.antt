@@ -4,8 +4,7 @@ use Prim.Native.Nat.{suc, _+_}
 use native.Mathlib.Omega.{arith}
 use borrow.Author.Needs.{needs}
 use lib.ListN.{getD}
-use Rattle.costs.proofs.Swept.{up-top}
-use Rattle.costs.proofs.Steps.{swept-both}
+use Rattle.costs.proofs.Steps.{up-small, swept-both}
 use Rattle.costs.proofs.sweep_costs.Statement.{statement}
 use Rattle.costs.proofs.sweep_costs.Tie as tie
 
@@ -14,7 +13,7 @@ sweep-down-requires c κs =
     let g = c .before .before .before .args in
     let u = c .before .sweep-up in (
       c .before .before .before .pre .0,
-      (u .ensures .long, λ l h. omega (arith, u .ensures .at l (omega arith) h, up-top (λ t. getD (g .w .now) (g .at + t) 0) (suc l))),
+      (u .ensures .long, λ l h. omega (arith, u .ensures .at l (omega arith) h, up-small (λ t. getD (g .w .now) (g .at + t) 0) (suc l))),
     )
 
 returns : tie.Need-returns

@@ -8,8 +8,7 @@ use borrow.Author.Needs.{needs}
 use lib.ListN.{getD}
 use Rattle.costs.specs.Rows.{illegalCost, Eight}
 use Rattle.costs.specs.Sweeps.{sweptUp}
-use Rattle.costs.proofs.Swept.{up-top}
-use Rattle.costs.proofs.Steps.{eight-none, eight-more, eight-all, swept-up-more}
+use Rattle.costs.proofs.Steps.{eight-none, eight-more, eight-all, up-small, swept-up-more}
 use Rattle.costs.proofs.sweep_up.Statement.{statement}
 use Rattle.costs.proofs.sweep_up.Tie as tie
 
@@ -28,7 +27,7 @@ swept c =
     ∙ swept-up-more (λ t. getD (c .before .before .before .before .before .before .args .w .now) (c .before .before .before .before .before .before .args .at + t) 0) (c .before .before .before .before .loop .l) (c .before .before .before .before .loop .x) (c .before .before .before .before .loop .inv .0)
 
 add-least-of : tie.Need-add-least-of Inv-loop μ-loop
-add-least-of c = omega (arith, c .before .loop .inv .0, up-top (λ t. getD (c .before .before .before .args .w .now) (c .before .before .before .args .at + t) 0) (c .before .loop .l))
+add-least-of c = omega (arith, c .before .loop .inv .0, up-small (λ t. getD (c .before .before .before .args .w .now) (c .before .before .before .args .at + t) 0) (c .before .loop .l))
 
 loop-again : tie.Need-loop-again Inv-loop μ-loop
 loop-again c = (rw (add-one (c .before .before .before .before .loop .l)) (swept c), eight-more _ _ _ _ _ (omega arith) (swept c) (c .before .before .before .before .loop .inv .1))

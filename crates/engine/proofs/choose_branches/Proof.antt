@@ -12,16 +12,19 @@ one : tie.Need-combination-of-requires
 one c κs =
     let s = c .before .before .before .before in
     let g = s .args in (
-      omega arith,
+      s .pre .0,
       (
         omega arith,
         (
-          (omega arith, omega arith),
+          omega arith,
           (
             (omega arith, omega arith),
             (
-              omega arith,
-              attained-at (g .w .now) (4 * g .m) (g .first) (g .k) 1 (g .layers) 8 (g .base) (g .goal) (omega arith) (omega arith) (s .pre .1 .1 .1 .1 .1),
+              (omega arith, omega arith),
+              (
+                omega arith,
+                attained-at (g .w .now) (4 * g .m) (g .first) (g .k) 1 (g .layers) 8 (g .base) (g .goal) (omega arith) (omega arith) (s .pre .1 .1 .1 .1 .1 .1),
+              ),
             ),
           ),
         ),
@@ -46,16 +49,19 @@ two : tie.Need-combination-of-requires-2
 two c κs =
     let s = c .before .before .before .before .before in
     let g = s .args in (
-      omega arith,
+      s .pre .0,
       (
         omega arith,
         (
-          (omega arith, omega arith),
+          omega arith,
           (
             (omega arith, omega arith),
             (
-              omega arith,
-              attained-at (g .w .now) (4 * g .m) (g .first) (g .k) 2 (g .layers) 8 (g .base) (g .goal) (omega arith) (omega arith) (s .pre .1 .1 .1 .1 .1),
+              (omega arith, omega arith),
+              (
+                omega arith,
+                attained-at (g .w .now) (4 * g .m) (g .first) (g .k) 2 (g .layers) 8 (g .base) (g .goal) (omega arith) (omega arith) (s .pre .1 .1 .1 .1 .1 .1),
+              ),
             ),
           ),
         ),
@@ -80,16 +86,19 @@ three : tie.Need-combination-of-requires-3
 three c κs =
     let s = c .before .before .before .before .before .before in
     let g = s .args in (
-      omega arith,
+      s .pre .0,
       (
         omega arith,
         (
-          (omega arith, omega arith),
+          omega arith,
           (
             (omega arith, omega arith),
             (
-              omega arith,
-              attained-at (g .w .now) (4 * g .m) (g .first) (g .k) 3 (g .layers) 8 (g .base) (g .goal) (omega arith) (omega arith) (s .pre .1 .1 .1 .1 .1),
+              (omega arith, omega arith),
+              (
+                omega arith,
+                attained-at (g .w .now) (4 * g .m) (g .first) (g .k) 3 (g .layers) 8 (g .base) (g .goal) (omega arith) (omega arith) (s .pre .1 .1 .1 .1 .1 .1),
+              ),
             ),
           ),
         ),
@@ -114,16 +123,19 @@ any : tie.Need-combination-of-requires-4
 any c κs =
     let s = c .before .before .before in
     let g = s .args in (
-      omega arith,
+      s .pre .0,
       (
         omega arith,
         (
-          (omega arith, omega arith),
+          omega arith,
           (
             (omega arith, omega arith),
             (
-              omega arith,
-              attained-at (g .w .now) (4 * g .m) (g .first) (g .k) (g .k) (g .layers) (g .layers) (g .base) (g .goal) refl refl (s .pre .1 .1 .1 .1 .1),
+              (omega arith, omega arith),
+              (
+                omega arith,
+                attained-at (g .w .now) (4 * g .m) (g .first) (g .k) (g .k) (g .layers) (g .layers) (g .base) (g .goal) refl refl (s .pre .1 .1 .1 .1 .1 .1),
+              ),
             ),
           ),
         ),

@@ -9,17 +9,20 @@ use Rattle.engine.proofs.combination_of.Tie as tie
 first-combination-requires : tie.Need-first-combination-requires
 first-combination-requires c κs =
     let g = c .before .before .before .before .args in (
-      omega arith,
+      c .before .before .before .before .pre .0,
       (
         omega arith,
         (
-          (omega arith, omega arith, omega arith),
+          omega arith,
           (
-            (omega arith, omega arith),
+            (omega arith, omega arith, omega arith),
             (
-              omega arith,
-              attained-of (g .w .now) (g .o) (g .first) (g .k) (g .layers) (g .base) (g .goal) (c .before .before .layers-tried .result) (c .before .layers-tried2 .result) (c .layers-tried3 .result)
-                  (omega arith) (omega arith) (omega arith) (c .before .before .before .before .pre .1 .1 .1 .1 .1),
+              (omega arith, omega arith),
+              (
+                omega arith,
+                attained-of (g .w .now) (g .o) (g .first) (g .k) (g .layers) (g .base) (g .goal) (c .before .before .layers-tried .result) (c .before .layers-tried2 .result) (c .layers-tried3 .result)
+                    (omega arith) (omega arith) (omega arith) (c .before .before .before .before .pre .1 .1 .1 .1 .1 .1),
+              ),
             ),
           ),
         ),

@@ -15,19 +15,19 @@ use Rattle.placing.proofs.place_all.Statement.{statement}
 use Rattle.placing.proofs.place_all.Tie as tie
 
 abbrev Inv-loop : tie.InvT-loop
-Inv-loop s w₀ g table₀ n limit answer₀ vias₀ k₀ w table answer vias k =
+Inv-loop s w₀ g table₀ n limit answer₀ chart vias₀ k₀ w table answer vias k =
     (length w ≡ length w₀) × (length table ≡ length table₀) × (length answer ≡ length answer₀) × (k ≤ n) × (vias ≤ k * 4294967296)
     × ((lent : Lent) (j : Job) (start : Start s g n limit w₀ table₀ (length answer₀) lent j) → Mid s g n w table answer₀ answer vias k lent j (start .accepted))
 
 abbrev μ-loop : tie.MeasureT-loop
-μ-loop s w₀ g table₀ n limit answer₀ vias₀ k₀ w table answer vias k = n - k
+μ-loop s w₀ g table₀ n limit answer₀ chart vias₀ k₀ w table answer vias k = n - k
 
 sub-i : tie.Need-sub-i Inv-loop μ-loop
 sub-i c =
     let l = c .before .before .before .before in
     let z = l .before .before .before .before .before in
     let x = z .args in
-    let o = z .pre .1 .1 in
+    let o = z .pre .1 .1 .1 in
     let l = l .loop in
     omega (
       arith,
@@ -40,7 +40,7 @@ turn-of-requires : tie.Need-turn-of-requires Inv-loop μ-loop
 turn-of-requires c κs =
     let z = c .before .before .before .before .before .before .before .before .before .before .before .before in
     let x = z .args in
-    let p = z .pre in
+    let p = z .pre .1 in
     let o = p .1 .1 in
     let l = c .before .before .before .before .before .before .before .loop in
     let h = c .before .before .before .before .before .before .loop-test .taken in
@@ -48,27 +48,30 @@ turn-of-requires c κs =
     let told = i .ensures .0 ∙ ap (λ (q : ℕ). getD (l .table) q 0) (c .before .before .before .before .before .turn-column .ensures .0) in
     let mid = l .inv .5 (o .lent) (o .job) (o .start) in
     let i-is = ap (λ (q : ℕ). q - 1) told in (
-      p .0,
+      z .pre .0,
       (
+        p .0,
         (
-          omega (arith, p .1 .0 .0, l .inv .0),
-          omega (arith, h, p .1 .0 .1),
-          omega (
-            arith,
-            told,
-            net-number (x .s .now) (x .g) (x .n) (x .limit) (x .w .now) (x .table .now) (length (x .answer .now)) (o .lent) (o .job) (o .start)
-                (l .w) (l .table) (x .answer .now) (l .answer) (l .vias) (l .k) mid h,
+          (
+            omega (arith, p .1 .0 .0, l .inv .0),
+            omega (arith, h, p .1 .0 .1),
+            omega (
+              arith,
+              told,
+              net-number (x .s .now) (x .g) (x .n) (x .limit) (x .w .now) (x .table .now) (length (x .answer .now)) (o .lent) (o .job) (o .start)
+                  (l .w) (l .table) (x .answer .now) (l .answer) (l .vias) (l .k) mid h,
+            ),
+            omega (arith, p .1 .0 .2, l .inv .1),
           ),
-          omega (arith, p .1 .0 .2, l .inv .1),
+          record {
+            turn =
+                turn (x .s .now) (x .g) (x .n) (x .limit) (x .w .now) (x .table .now) (length (x .answer .now)) (o .lent) (o .job) (o .start)
+                (l .w) (l .table) (x .answer .now) (l .answer) (l .vias) (l .k) mid h;
+            at =
+                row-turn (x .s .now) (x .g) (x .n) (x .limit) (x .w .now) (x .table .now) (length (x .answer .now)) (o .lent) (o .job) (o .start)
+                (l .w) (l .table) (x .answer .now) (l .answer) (l .vias) (l .k) mid h (i .result - 1) (x .n + 1 + l .k) i-is refl (l .inv .2);
+          },
         ),
-        record {
-          turn =
-              turn (x .s .now) (x .g) (x .n) (x .limit) (x .w .now) (x .table .now) (length (x .answer .now)) (o .lent) (o .job) (o .start)
-              (l .w) (l .table) (x .answer .now) (l .answer) (l .vias) (l .k) mid h;
-          at =
-              row-turn (x .s .now) (x .g) (x .n) (x .limit) (x .w .now) (x .table .now) (length (x .answer .now)) (o .lent) (o .job) (o .start)
-              (l .w) (l .table) (x .answer .now) (l .answer) (l .vias) (l .k) mid h (i .result - 1) (x .n + 1 + l .k) i-is refl (l .inv .2);
-        },
       ),
     )
 
@@ -126,7 +129,7 @@ place-all-spec =
     (λ c. search needs) (λ c. search needs) (λ c. search needs)
     turn-of-requires
     (λ c. search needs)
-    (λ c. omega (arith, c .before .before .before .before .before .before .before .before .before .before .before .before .before .before .loop .inv .4, c .before .before .before .before .before .before .before .before .before .before .before .before .before .before .loop .inv .3, c .before .before .before .before .before .before .before .before .before .before .before .before .before .before .before .before .before .before .before .pre .1 .0 .1))
+    (λ c. omega (arith, c .before .before .before .before .before .before .before .before .before .before .before .before .before .before .loop .inv .4, c .before .before .before .before .before .before .before .before .before .before .before .before .before .before .loop .inv .3, c .before .before .before .before .before .before .before .before .before .before .before .before .before .before .before .before .before .before .before .pre .1 .1 .0 .1))
     (λ c. search needs)
     (λ c. omega (arith, c .before .before .before .before .before .before .before .before .before .before .before .before .before .loop-test .taken))
     loop-again

@@ -13,7 +13,7 @@ part-take-turn-end : tie.Need-part-take-turn-end
 part-take-turn-end c =
     let z = c .before .before .before .before .before .before .before .before in
     let x = z .args in
-    let u = z .pre .1 .1 in
+    let u = z .pre .1 .1 .1 in
     let r = c .before .before .row-of in
     let e = r .ensures .0 in
     lent-inside (x .s .now) (x .g) (x .stamp) (x .limit) (x .w .now) (x .table .now) (x .answer .now) (x .i) (u .turn) (u .at) (r .result)
@@ -23,19 +23,22 @@ take-turn-requires : tie.Need-take-turn-requires
 take-turn-requires c κs =
     let z = c .before .before .before .before .before .before .before .before .before in
     let x = z .args in
-    let p = z .pre in
+    let p = z .pre .1 in
     let u = p .1 .1 in
     let r = c .before .before .before .row-of in
     let e = r .ensures .0 in (
-      p .0,
+      z .pre .0,
       (
-        (p .1 .0 .0, p .1 .0 .1),
-        record {
-          turn = u .turn;
-          at =
-              turn-at (x .s .now) (x .g) (x .stamp) (x .limit) (x .w .now) (x .table .now) (x .answer .now) (x .i) (u .turn) (u .at) (r .result)
-              (ap (λ (n : NetRow). n .pins) e) (ap (λ (n : NetRow). n .edges) e) (ap (λ (n : NetRow). n .first) e) (ap (λ (n : NetRow). n .count) e);
-        },
+        p .0,
+        (
+          (p .1 .0 .0, p .1 .0 .1),
+          record {
+            turn = u .turn;
+            at =
+                turn-at (x .s .now) (x .g) (x .stamp) (x .limit) (x .w .now) (x .table .now) (x .answer .now) (x .i) (u .turn) (u .at) (r .result)
+                (ap (λ (n : NetRow). n .pins) e) (ap (λ (n : NetRow). n .edges) e) (ap (λ (n : NetRow). n .first) e) (ap (λ (n : NetRow). n .count) e);
+          },
+        ),
       ),
     )
 
@@ -45,7 +48,7 @@ returns c =
     let x = z .args in
     let r = c .before .before .before .before .before .before .before .before .before .row-of in
     let e = r .ensures .0 in
-    let o = z .pre .1 .1 in
+    let o = z .pre .1 .1 .1 in
     let t = c .before .before .before .before .before .take-turn in (
       λ u k.
           row-done (x .s .now) (x .g) (x .stamp) (x .limit) (x .w .now) (x .table .now) (x .answer .now) (x .i) u k (r .result)

@@ -26,30 +26,34 @@ limit-of-requires c κs =
 
 place-all-requires : tie.Need-place-all-requires
 place-all-requires c κs =
-    let l = c .before .before .before in
+    let k : tie.After-chart = c .before .before .before .before in
+    let l : tie.After-limit-of = k .before in
     let v = l .before .before .before in
     let z = v .before .before .before .before .before .before in
     let x = z .args in
     let o = z .pre in (
-      o .turned .given .shaped,
+      k .chart .ensures,
       (
+        o .turned .given .shaped,
         (
-          all-room (x .s .now) (x .h) (x .w .now) (x .table .now) (length (x .answer .now)) (o .lent) (o .job) (o .turned) (v .overflows .last .0) (v .overflows .result) (v .overflows .ensures .0) (v .overflows .ensures .1),
-          few-nets (x .s .now) (x .h) (x .w .now) (x .table .now) (length (x .answer .now)) (o .lent) (o .job) (o .turned),
-          o .turned .rows .long,
+          (
+            all-room (x .s .now) (x .h) (x .w .now) (x .table .now) (length (x .answer .now)) (o .lent) (o .job) (o .turned) (v .overflows .last .0) (v .overflows .result) (v .overflows .ensures .0) (v .overflows .ensures .1),
+            few-nets (x .s .now) (x .h) (x .w .now) (x .table .now) (length (x .answer .now)) (o .lent) (o .job) (o .turned),
+            o .turned .rows .long,
+          ),
+          record {
+            lent = o .lent;
+            job = o .job;
+            start = placing-starts (x .s .now) (x .h) (x .w .now) (x .table .now) (length (x .answer .now)) (o .lent) (o .job) (o .turned) (v .overflows .last .0) (v .overflows .result) (v .overflows .ensures .0) (v .overflows .ensures .1) (l .limit-of .result) (l .limit-of .ensures);
+          },
         ),
-        record {
-          lent = o .lent;
-          job = o .job;
-          start = placing-starts (x .s .now) (x .h) (x .w .now) (x .table .now) (length (x .answer .now)) (o .lent) (o .job) (o .turned) (v .overflows .last .0) (v .overflows .result) (v .overflows .ensures .0) (v .overflows .ensures .1) (l .limit-of .result) (l .limit-of .ensures);
-        },
       ),
     )
 
 returns : tie.Need-returns
 returns c =
     let y = c .before .before .before .before .before .before in
-    let l = y .before .before .before .before in
+    let l : tie.After-limit-of = y .before .before .before .before .before .before in
     let v = l .before .before .before in
     let x = v .before .before .before .before .before .before .args in (
       λ lent j at. record {
@@ -64,4 +68,4 @@ pub place-nets-spec : {M : Type 1} → statement M
 place-nets-spec =
     tie.close
     (tie.spec
-    overflows-requires limit-of-requires place-all-requires (λ c. search needs) (λ c. search needs) (λ c. search needs) (λ c. search needs) returns)
+    overflows-requires limit-of-requires (λ c κs. search needs) place-all-requires (λ c. search needs) (λ c. search needs) (λ c. search needs) (λ c. search needs) returns)

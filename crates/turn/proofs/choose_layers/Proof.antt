@@ -5,6 +5,7 @@ use Prim.Native.Nat.{ℕ}
 use native.Mathlib.Omega.{arith}
 use lib.ListN.{length}
 use Rattle.engine.specs.Net.{Placed}
+use Rattle.model.specs.Plan.{legal}
 use Rattle.turn.specs.Turn.{Turn, turnNet, turnLimit, NetWalked}
 use Rattle.turn.proofs.Choosing.{tiles-fit, limit-fits, small, known, holds, holds-net, net-chosen, chosen-long}
 use Rattle.turn.specs.Steps.{engineOf}
@@ -15,7 +16,7 @@ put-legal-requires : tie.Need-put-legal-requires
 put-legal-requires c κs =
     let z = c .before .before in
     let x = z .args in
-    let r = z .pre in
+    let r = z .pre .1 in
     let s = r .1 .1 in
     let f = tiles-fit (x .g) (r .0) (x .n) (x .w .now) (r .1 .0) (s .stamp) (s .turn) (s .walked) in (
       r .0,
@@ -32,13 +33,16 @@ place-requires : tie.Need-place-requires
 place-requires c κs =
     let z = c .before .before .before .before .before .before in
     let x = z .args in
-    let r = z .pre in
+    let r = z .pre .1 in
     let s = r .1 .1 in
     let p = c .before .before .before .put-legal in (
-      r .0,
+      z .pre .0,
       (
-        omega (arith, r .1 .0, p .ensures .outside .long),
-        holds-net (x .g) (r .0) (x .n) (x .w .now) (r .1 .0) (s .stamp) (s .turn) (s .walked) (x .limit) (s .limit-is) (p .last .0) (p .ensures),
+        r .0,
+        (
+          omega (arith, r .1 .0, p .ensures .outside .long),
+          holds-net (x .g) (r .0) (x .n) (x .w .now) (r .1 .0) (s .stamp) (s .turn) (s .walked) (x .limit) (s .limit-is) (p .last .0) (p .ensures),
+        ),
       ),
     )
 
@@ -51,15 +55,15 @@ module _ (c : tie.After-place) where
   z = p .before .before .before
 
   placed : (u : Turn) (stamp : ℕ) → NetWalked (z .args .g) stamp (z .args .n) (z .args .w .now) u → z .args .limit ≡ turnLimit u
-      → Placed (u .job) (turnNet u) (u .plan) (engineOf (z .args .g) (p .put-legal .last .0)) (engineOf (z .args .g) (c .place .last .0)) (z .args .g .t) (c .place .result)
+      → Placed (λ l. l) (u .job) (turnNet u) (legal (u .job) (u .plan)) (engineOf (z .args .g) (p .put-legal .last .0)) (engineOf (z .args .g) (c .place .last .0)) (z .args .g .t) (c .place .result)
   placed u stamp h e =
-      c .place .ensures .0 (u .job) (turnNet u) (u .plan)
-      (holds (z .args .g) (z .pre .0) (z .args .n) (z .args .w .now) (z .pre .1 .0) stamp u h (z .args .limit) e (p .put-legal .last .0) (p .put-legal .ensures))
+      c .place .ensures .0 (u .job) (turnNet u) (legal (u .job) (u .plan))
+      (holds (z .args .g) (z .pre .1 .0) (z .args .n) (z .args .w .now) (z .pre .1 .1 .0) stamp u h (z .args .limit) e (p .put-legal .last .0) (p .put-legal .ensures))
 
   long : length (c .place .last .0) ≡ length (z .args .w .now)
   long =
-      let s = z .pre .1 .1 in
-      chosen-long (z .args .g) (z .pre .0) (z .args .n) (z .args .w .now) (z .pre .1 .0) (s .stamp) (s .turn) (s .walked) (z .args .limit) (s .limit-is) (p .put-legal .last .0)
+      let s = z .pre .1 .1 .1 in
+      chosen-long (z .args .g) (z .pre .1 .0) (z .args .n) (z .args .w .now) (z .pre .1 .1 .0) (s .stamp) (s .turn) (s .walked) (z .args .limit) (s .limit-is) (p .put-legal .last .0)
       (p .put-legal .ensures) (c .place .last .0) (c .place .result) (c .place .ensures .1) (placed (s .turn) (s .stamp) (s .walked) (s .limit-is))
 
 returns : tie.Need-returns
@@ -67,7 +71,7 @@ returns c =
     let e = c .before .before in
     let x = z e .args in (
       λ u stamp h l.
-          net-chosen (x .g) (z e .pre .0) (x .n) (x .w .now) (z e .pre .1 .0) stamp u h (x .limit) l (p e .put-legal .last .0) (p e .put-legal .ensures) (e .place .last .0) (e .place .result)
+          net-chosen (x .g) (z e .pre .1 .0) (x .n) (x .w .now) (z e .pre .1 .1 .0) stamp u h (x .limit) l (p e .put-legal .last .0) (p e .put-legal .ensures) (e .place .last .0) (e .place .result)
           (e .place .ensures .1) (placed e u stamp h l),
       long e,
     )

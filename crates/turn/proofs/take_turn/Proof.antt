@@ -10,7 +10,7 @@ use Rattle.turn.proofs.take_turn.Tie as tie
 
 read-and-walk-requires : tie.Need-read-and-walk-requires
 read-and-walk-requires c κs =
-    let r = c .before .before .before .before .pre in
+    let r = c .before .before .before .before .pre .1 in
     let s = r .1 .1 in
     (r .0, (r .1 .0, record { turn = s .turn; before = s .at .before }))
 
@@ -28,12 +28,15 @@ module _ (a : tie.After-read-and-walk) where
 choose-layers-requires : tie.Need-choose-layers-requires
 choose-layers-requires c κs =
     let a = c .before .before .before in
-    let r = z a .pre in
+    let r = z a .pre .1 in
     let s = r .1 .1 in (
-      r .0,
+      z a .pre .0,
       (
-        omega (arith, r .1 .0 .0, a .read-and-walk .ensures .1),
-        record { turn = s .turn; stamp = z a .args .stamp; walked = walked a (s .turn) (s .at); limit-is = s .at .limit-is },
+        r .0,
+        (
+          omega (arith, r .1 .0 .0, a .read-and-walk .ensures .1),
+          record { turn = s .turn; stamp = z a .args .stamp; walked = walked a (s .turn) (s .at); limit-is = s .at .limit-is },
+        ),
       ),
     )
 
@@ -51,7 +54,7 @@ module _ (b : tie.After-choose-layers) where
 write-layers-requires : tie.Need-write-layers-requires
 write-layers-requires c κs =
     let b = c .before .before .before .before in
-    let r = z (a b) .pre in
+    let r = z (a b) .pre .1 in
     let s = r .1 .1 in (
       r .0,
       (
