@@ -1,1 +1,2 @@
 pub mod FlatPlan
+pub mod Limited

@@ -12,6 +12,7 @@ ghost use Rattle.model.specs.Overflow.{over, ceilDiv};
 ghost use Rattle.net.specs.SoFar.{Capacities};
 ghost use Rattle.net.specs.Places.{SmallCapacities};
 ghost use Rattle.flat.specs.FlatPlan.{FlatCapacities, FlatDemands, Overflows, sumAt, capacitySum};
+ghost use Rattle.flat.specs.Limited.{limitAt};
 
 // TO and MO of the flat plan.
 pub struct Flat {
@@ -102,11 +103,32 @@ pub fn overflows(w: &mut [u32], g: Shape) -> Flat
     Flat { total, most }
 }
 
+// The limit on the overflow of one layer, by edge: the same for all edges.
+pub struct Limits {
+    pub each: u32,
+}
+
 // "MO/K rounded up"
-pub fn limit_of(most: u32, k: usize) -> u32
+pub fn limits_of(most: u32, k: usize) -> Limits
     requires { ⌜ (most ≤ mostNets) × (1 ≤ k) × (k ≤ mostLayers) ⌝ }
-    ensures { λ r. ⌜ r ≡ ceilDiv most k ⌝ }
+    ensures { λ r. ⌜ ((e : ℕ) → limitAt r e ≡ ceilDiv most k) ⌝ }
 {
     let n = k as u32;
-    (most + (n - 1)) / n
+    Limits {
+        each: (most + (n - 1)) / n,
+    }
+}
+
+// The limit of an edge.
+pub fn limit_at(m: Limits, edge: usize) -> u32
+    ensures { λ r. ⌜ r ≡ limitAt m edge ⌝ }
+{
+    m.each
+}
+
+// The largest limit of all edges.
+pub fn largest_limit(m: Limits) -> u32
+    ensures { λ r. ⌜ ((e : ℕ) → r ≡ limitAt m e) ⌝ }
+{
+    m.each
 }

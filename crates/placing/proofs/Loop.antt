@@ -57,7 +57,7 @@ pub record Mid (s : List ℕ) (g : Shape) (n : ℕ) (w table answer₀ answer : 
   pub beyond : drop (entryCount j) answer ≡ drop (entryCount j) answer₀
   pub vias-left : v + sum (viasIn j) (turns (drop k (order j))) ≡ totalVias j (plan j)
 
-module _ (s : List ℕ) (g : Shape) (n m : ℕ) (w₀ table₀ : List ℕ) (size : ℕ) (lent : Lent) (j : Job) (start : Start s g n m w₀ table₀ size lent j) where
+module _ (s : List ℕ) (g : Shape) (n : ℕ) (m : ℕ → ℕ) (w₀ table₀ : List ℕ) (size : ℕ) (lent : Lent) (j : Job) (start : Start s g n m w₀ table₀ size lent j) where
   abbrev acc : Accepted lent j
   acc = start .accepted
 

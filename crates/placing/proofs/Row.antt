@@ -32,7 +32,7 @@ drop-past a k b w p room long h =
     ∙ drop-drop (k + (b - (a + k))) a w
     ∙ ap (λ (m : ℕ). drop m w) (sym y)
 
-module _ (s : List ℕ) (g : Shape) (stamp m : ℕ) (w table answer : List ℕ) (i : ℕ) (u : Turn) (at : RowTurn s g stamp m w table (length answer) i u) where
+module _ (s : List ℕ) (g : Shape) (stamp : ℕ) (m : ℕ → ℕ) (w table answer : List ℕ) (i : ℕ) (u : Turn) (at : RowTurn s g stamp m w table (length answer) i u) where
   abbrev j : Job
   j = u .job
 

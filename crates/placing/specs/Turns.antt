@@ -32,16 +32,16 @@ rowOf table i = record {
 -- ---- one turn
 
 -- it is the turn u, of net i: the working numbers hold the plan so far, the table has its row, and the answer list of this length has room
-pub record RowTurn (s : List ℕ) (g : Shape) (stamp m : ℕ) (w table : List ℕ) (size i : ℕ) (u : Turn) : Type 0 where
+pub record RowTurn (s : List ℕ) (g : Shape) (stamp : ℕ) (m : ℕ → ℕ) (w table : List ℕ) (size i : ℕ) (u : Turn) : Type 0 where
   pub grid : OfJob g (u .job)
   pub so-far : SoFar g (u .job) (u .plan) w
   pub older : Older stamp (tilesOf g w)
-  pub limit-is : m ≡ turnLimit u
+  pub limit-is : (e : ℕ) → m e ≡ turnLimit u e
   pub net-is : i ≡ u .entry .net - 1
   pub rows : Table s (u .job) table
   pub room : entryCount (u .job) ≤ size
 
-pub record RowTurnSome (s : List ℕ) (g : Shape) (stamp m : ℕ) (w table : List ℕ) (size i : ℕ) : Type 0 where
+pub record RowTurnSome (s : List ℕ) (g : Shape) (stamp : ℕ) (m : ℕ → ℕ) (w table : List ℕ) (size i : ℕ) : Type 0 where
   pub turn : Turn
   pub at : RowTurn s g stamp m w table size i turn
 
@@ -56,18 +56,18 @@ pub record RowDone (g : Shape) (stamp : ℕ) (w answer answer′ : List ℕ) (i 
 -- ---- all turns
 
 -- before the first: no net is placed, the table has the placing order, and the answer list has this length
-pub record Start (s : List ℕ) (g : Shape) (n m : ℕ) (w table : List ℕ) (size : ℕ) (lent : Lent) (j : Job) : Type 0 where
+pub record Start (s : List ℕ) (g : Shape) (n : ℕ) (m : ℕ → ℕ) (w table : List ℕ) (size : ℕ) (lent : Lent) (j : Job) : Type 0 where
   pub accepted : Accepted lent j
   pub grid : OfJob g j
   pub count : n ≡ netCount j
-  pub limit-is : m ≡ limit j
+  pub limit-is : (e : ℕ) → m e ≡ limit j
   pub so-far : SoFar g j (replicate (netCount j) []) w
   pub older : Older (suc n) (tilesOf g w)
   pub rows : Table s j table
   pub turns-are : TurnsIn j table
   pub room : entryCount j ≤ size
 
-pub record StartSome (s : List ℕ) (g : Shape) (n m : ℕ) (w table : List ℕ) (size : ℕ) : Type 0 where
+pub record StartSome (s : List ℕ) (g : Shape) (n : ℕ) (m : ℕ → ℕ) (w table : List ℕ) (size : ℕ) : Type 0 where
   pub lent : Lent
   pub job : Job
   pub start : Start s g n m w table size lent job

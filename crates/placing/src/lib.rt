@@ -1,9 +1,11 @@
 // The nets of an accepted job in placing order, each in its turn. Its layers go into its own stretch of the answer list, and its vias into the net table.
+use flat::Limits;
 use layout::Shape;
 ghost use mathlib.Core.Path.{_≡_};
 ghost use Prim.Native.Nat.{ℕ, _*_, _<_, _≤_};
 ghost use lib.ListN.{length, set};
 ghost use Rattle.costs.specs.Mask.{spanOf, Charted};
+ghost use Rattle.flat.specs.Limited.{limitAt};
 ghost use Rattle.layout.specs.Areas.{areasEnd};
 ghost use Rattle.layout.specs.Shapes.{Shaped};
 ghost use Rattle.layout.specs.Table.{viasColumn, tableSize};
@@ -42,15 +44,15 @@ fn turn_of(
     table: &mut [u32],
     i: usize,
     stamp: u32,
-    limit: u32,
+    limits: Limits,
     answer: &mut [u8],
     chart: &[u32; 256],
 ) -> u32
     requires { ⌜ Charted spanOf (now chart) ⌝ }
     requires { ⌜ Shaped g ⌝ }
     requires { ⌜ (areasEnd g ≤ length (now w)) × (stamp ≤ 8192) × (i < 4096) × (tableSize ≤ length (now table)) ⌝ }
-    requires { ⌜ RowTurnSome (now s) g stamp limit (now w) (now table) (length (now answer)) i ⌝ }
-    ensures { λ r. ⌜ ((u : Turn) → RowTurn (now (s .entry)) g stamp limit (now (w .entry)) (now (table .entry)) (length (now (answer .entry))) i u → RowDone g stamp (now (w .exit)) (now (answer .entry)) (now (answer .exit)) i r u) ⌝ }
+    requires { ⌜ RowTurnSome (now s) g stamp (limitAt limits) (now w) (now table) (length (now answer)) i ⌝ }
+    ensures { λ r. ⌜ ((u : Turn) → RowTurn (now (s .entry)) g stamp (limitAt limits) (now (w .entry)) (now (table .entry)) (length (now (answer .entry))) i u → RowDone g stamp (now (w .exit)) (now (answer .entry)) (now (answer .exit)) i r u) ⌝ }
     ensures { λ r. ⌜ now (table .exit) ≡ set (now (table .entry)) (viasColumn i) r ⌝ }
     ensures { λ _. ⌜ (length (now (w .exit)) ≡ length (now (w .entry))) × (length (now (answer .exit)) ≡ length (now (answer .entry))) ⌝ }
 {
@@ -64,7 +66,7 @@ fn turn_of(
         w,
         g,
         stamp,
-        limit,
+        limits,
         &mut answer[from..to],
         chart,
     );
@@ -72,29 +74,29 @@ fn turn_of(
     vias
 }
 
-// All n nets, in the order that the net table has. `limit` is MO/K rounded up. The vias of the plan.
+// All n nets, in the order that the net table has. `limits` are those on one layer's overflow. The vias of the plan.
 pub fn place_all(
     s: &[u8],
     w: &mut [u32],
     g: Shape,
     table: &mut [u32],
     n: usize,
-    limit: u32,
+    limits: Limits,
     answer: &mut [u8],
     chart: &[u32; 256],
 ) -> u64
     requires { ⌜ Charted spanOf (now chart) ⌝ }
     requires { ⌜ Shaped g ⌝ }
     requires { ⌜ (areasEnd g ≤ length (now w)) × (n ≤ 4096) × (tableSize ≤ length (now table)) ⌝ }
-    requires { ⌜ StartSome (now s) g n limit (now w) (now table) (length (now answer)) ⌝ }
-    ensures { λ r. ⌜ ((lent : Lent) (j : Job) → Start (now (s .entry)) g n limit (now (w .entry)) (now (table .entry)) (length (now (answer .entry))) lent j → AllPlaced j (now (answer .entry)) (now (answer .exit)) (now (table .exit)) r) ⌝ }
+    requires { ⌜ StartSome (now s) g n (limitAt limits) (now w) (now table) (length (now answer)) ⌝ }
+    ensures { λ r. ⌜ ((lent : Lent) (j : Job) → Start (now (s .entry)) g n (limitAt limits) (now (w .entry)) (now (table .entry)) (length (now (answer .entry))) lent j → AllPlaced j (now (answer .entry)) (now (answer .exit)) (now (table .exit)) r) ⌝ }
     ensures { λ _. ⌜ (length (now (w .exit)) ≡ length (now (w .entry))) × (length (now (table .exit)) ≡ length (now (table .entry))) × (length (now (answer .exit)) ≡ length (now (answer .entry))) ⌝ }
 {
     let mut vias = 0u64;
     for k in 0..n {
         let i = layout::index(table[layout::turn_column(k)]) - 1;
         let stamp = (n + 1 + k) as u32;
-        vias += turn_of(s, w, g, table, i, stamp, limit, answer, chart) as u64;
+        vias += turn_of(s, w, g, table, i, stamp, limits, answer, chart) as u64;
     }
     vias
 }

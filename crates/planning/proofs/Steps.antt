@@ -131,17 +131,17 @@ module _ (s : List ℕ) (h : Head) (w table : List ℕ) (size : ℕ) (lent : Len
     all-room = omega (arith, out .long, at .given .room)
 
     pub limit-told : (m : ℕ) → m ≡ ceilDiv (r .most) (h .shape .k) → m ≡ limit j
-    limit-told m e = e ∙ ap₂ ceilDiv (overflows-here .most) (ap (λ (x : Shape). x .k) (at .given .shape))
+    limit-told m m-is = m-is ∙ ap₂ ceilDiv (overflows-here .most) (ap (λ (x : Shape). x .k) (at .given .shape))
 
     tiles-kept : tilesOf (h .shape) w₁ ≡ tilesOf (h .shape) w
     tiles-kept = part-outside (demandAt g) (g .e) w w₁ out (tilesAt g) (g .t) (inr (omega arith))
 
-    pub placing-starts : (m : ℕ) → m ≡ ceilDiv (r .most) (h .shape .k) → Start s (h .shape) (h .nets) m w₁ table size lent j
+    pub placing-starts : (m : ℕ → ℕ) → ((e : ℕ) → m e ≡ ceilDiv (r .most) (h .shape .k)) → Start s (h .shape) (h .nets) m w₁ table size lent j
     placing-starts m m-is = record {
       accepted = at .given .accepted;
       grid = of-job g j (at .given .shape);
       count = at .given .count;
-      limit-is = limit-told m m-is;
+      limit-is = λ e. limit-told (m e) (m-is e);
       so-far = so-far-first g j w (at .given .capacities) (at .given .loads) w₁ r overflows-here out;
       older = λ t. omega (arith, ap (λ (l : List ℕ). getD l t 0) tiles-kept, at .given .marks t);
       rows = at .rows;

@@ -117,13 +117,13 @@ fn place_nets(s: &[u8], h: Head, w: &mut [u32], table: &mut [u32], answer: &mut 
     ensures { λ _. ⌜ length (now (w .exit)) ≡ length (now (w .entry)) ⌝ }
 {
     let flat = flat::overflows(w, h.shape);
-    let limit = flat::limit_of(flat.most, h.shape.k);
+    let limits = flat::limits_of(flat.most, h.shape.k);
     let chart = costs::chart();
-    let vias = placing::place_all(s, w, h.shape, table, h.nets, limit, answer, &chart);
+    let vias = placing::place_all(s, w, h.shape, table, h.nets, limits, answer, &chart);
     Totals {
         vias,
         total: flat.total,
-        maximum: limit as u64,
+        maximum: flat::largest_limit(limits) as u64,
     }
 }
 

@@ -30,7 +30,7 @@ use Rattle.tracks.specs.Legal.{legalMask, legal-in}
 use Rattle.tracks.specs.OccupiedAll.{layersAt, edgesOf, layersIn}
 use Rattle.net.specs.Places.{SmallCapacities, small-capacities}
 use Rattle.turn.specs.Kept.{outside-low, so-far-low}
-use Rattle.turn.specs.Steps.{masksAt, engineOf, KnownEdges, LegalPut}
+use Rattle.turn.specs.Steps.{masksAt, engineOf, KnownEdges, legalAt, LegalPut}
 use Rattle.turn.specs.Turn.{Turn, turnNet, turnWalk, walkLayers, turnLimit, turnVias, NetWalked, NetChosen}
 use Rattle.turn.proofs.Net.{stands, net-ok, wide, high, as-long, edges-fit, walk-known}
 
@@ -62,8 +62,8 @@ module _ (g : Shape) (shaped : Shaped g) (n : ℕ) (w : List ℕ) (room : areasE
   pub tiles-fit : (1 ≤ n) × (n ≤ g .t)
   tiles-fit = (omega (arith, h .tiles), omega (arith, h .tiles, fit))
 
-  pub limit-fits : (m : ℕ) → m ≡ turnLimit u → m ≤ mostNets
-  limit-fits m e = omega (arith, limit-small (u .lent) (u .job) (u .accepted), u .accepted .net-count)
+  pub limit-fits : (m : ℕ → ℕ) → ((e : ℕ) → m e ≡ turnLimit u e) → (e : ℕ) → m e ≤ mostNets
+  limit-fits m h e = omega (arith, h e, limit-small (u .lent) (u .job) (u .accepted), u .accepted .net-count)
 
   pub small : SmallCapacities g w
   small = small-capacities g (u .job) w (h .so-far .capacities) (capacity-small (u .lent) (u .job) (u .accepted))
@@ -76,7 +76,7 @@ module _ (g : Shape) (shaped : Shaped g) (n : ℕ) (w : List ℕ) (room : areasE
   known zero p q = absurd (omega arith)
   known (suc k) p q = omega (arith, h .above k (omega (arith, h .tiles)), edge-in k (omega (arith, h .tiles)))
 
-  module _ (m : ℕ) (m-is : m ≡ turnLimit u) (w′ : List ℕ) (put : LegalPut g n m w w′) where
+  module _ (m : ℕ → ℕ) (m-is : (e : ℕ) → m e ≡ turnLimit u e) (w′ : List ℕ) (put : LegalPut g n m w w′) where
     part-room : engineAt g + 12 * g .t ≤ length w′
     part-room = omega (arith, put .outside .long)
 
@@ -104,15 +104,16 @@ module _ (g : Shape) (shaped : Shaped g) (n : ℕ) (w : List ℕ) (room : areasE
           (has-in (pinsAt (u .job) (turnNet u) i) l .1 k);
     }
 
-    mask-at : (i : ℕ) → i < length (turnNet u .edges) → getD (engineOf g w′) (2 * g .t + suc i) 0 ≡ legalMask g w (getD (turnWalk u) i 0) (turnLimit u)
+    mask-at : (i : ℕ) → i < length (turnNet u .edges) → getD (engineOf g w′) (2 * g .t + suc i) 0 ≡ legalAt g w (turnLimit u) (getD (turnWalk u) i 0)
     mask-at i b =
         let p : engineAt g + (2 * g .t + suc i) ≡ masksAt g + suc i = omega arith in
         engine-at (2 * g .t + suc i) (omega (arith, fit))
         ∙ ap (λ (x : ℕ). getD w′ x 0) p
         ∙ put .masks (suc i) (omega arith) (omega (arith, h .tiles))
-        ∙ ap₂ (λ (e v : ℕ). legalMask g w e v) (h .above i b) m-is
+        ∙ ap (legalAt g w m) (h .above i b)
+        ∙ ap (legalMask g w (getD (turnWalk u) i 0)) (m-is (getD (turnWalk u) i 0))
 
-    bit-at : (i : ℕ) → i < length (turnNet u .edges) → (l : ℕ) → mask.has (getD (engineOf g w′) (2 * g .t + suc i) 0) l ≡ bitOf (legalMask g w (getD (turnWalk u) i 0) (turnLimit u)) (l - 1)
+    bit-at : (i : ℕ) → i < length (turnNet u .edges) → (l : ℕ) → mask.has (getD (engineOf g w′) (2 * g .t + suc i) 0) l ≡ bitOf (legalAt g w (turnLimit u) (getD (turnWalk u) i 0)) (l - 1)
     bit-at i b l = has-bit (getD (engineOf g w′) (2 * g .t + suc i) 0) l ∙ ap (λ (x : ℕ). bitOf x (l - 1)) (mask-at i b)
 
     -- the net has a legal choice

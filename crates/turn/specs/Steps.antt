@@ -21,9 +21,13 @@ engineOf g w = part (engineAt g) (12 * g .t) w
 abbrev pub KnownEdges : Shape → ℕ → List ℕ → Type 0
 KnownEdges g n w = (i : ℕ) → 1 ≤ i → i < n → getD w (aboveAt g + i) 0 < g .e
 
--- the legal layers of these edges are put by walk place, where the limit is m, and nothing else
-pub record LegalPut (g : Shape) (n m : ℕ) (w w′ : List ℕ) : Type 0 where
-  pub masks : (i : ℕ) → 1 ≤ i → i < n → getD w′ (masksAt g + i) 0 ≡ legalMask g w (getD w (aboveAt g + i) 0) m
+-- the legal layers of an edge, where the limits are m by edge
+abbrev pub legalAt : Shape → List ℕ → (ℕ → ℕ) → ℕ → ℕ
+legalAt g w m e = legalMask g w e (m e)
+
+-- they are put by walk place, and nothing else
+pub record LegalPut (g : Shape) (n : ℕ) (m : ℕ → ℕ) (w w′ : List ℕ) : Type 0 where
+  pub masks : (i : ℕ) → 1 ≤ i → i < n → getD w′ (masksAt g + i) 0 ≡ legalAt g w m (getD w (aboveAt g + i) 0)
   pub outside : Outside (masksAt g) (g .t) w w′
 
 -- the layers ls put by edge, at the places from a on of the edges es

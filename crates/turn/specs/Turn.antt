@@ -52,9 +52,9 @@ turnWalk u = walk (u .job) (turnNet u)
 abbrev pub walkLayers : Turn → List ℕ
 walkLayers u = bestInWalk (u .job) (u .plan) (turnNet u) (turnWalk u)
 
--- "MO/K rounded up"
-abbrev pub turnLimit : Turn → ℕ
-turnLimit u = limit (u .job)
+-- "MO/K rounded up", for every edge
+abbrev pub turnLimit : Turn → ℕ → ℕ
+turnLimit u e = limit (u .job)
 
 -- the grid and the stack are those of the job
 pub record OfJob (g : Shape) (j : Job) : Type 0 where
@@ -83,13 +83,13 @@ pub record BeforeSome (s : List ℕ) (p q : ℕ) (g : Shape) (stamp : ℕ) (w : 
   pub turn : Turn
   pub before : Before s p q g stamp w turn
 
--- the same, with MO/K rounded up as the limit m, and a stretch of c numbers for the net's layers
-pub record TurnAt (s : List ℕ) (p q : ℕ) (g : Shape) (stamp m : ℕ) (w : List ℕ) (c : ℕ) (u : Turn) : Type 0 where
+-- the same, with the limits m by edge, and a stretch of c numbers for the net's layers
+pub record TurnAt (s : List ℕ) (p q : ℕ) (g : Shape) (stamp : ℕ) (m : ℕ → ℕ) (w : List ℕ) (c : ℕ) (u : Turn) : Type 0 where
   pub before : Before s p q g stamp w u
-  pub limit-is : m ≡ turnLimit u
+  pub limit-is : (e : ℕ) → m e ≡ turnLimit u e
   pub count : c ≡ length (turnNet u .edges)
 
-pub record TurnSome (s : List ℕ) (p q : ℕ) (g : Shape) (stamp m : ℕ) (w : List ℕ) (c : ℕ) : Type 0 where
+pub record TurnSome (s : List ℕ) (p q : ℕ) (g : Shape) (stamp : ℕ) (m : ℕ → ℕ) (w : List ℕ) (c : ℕ) : Type 0 where
   pub turn : Turn
   pub at : TurnAt s p q g stamp m w c turn
 
@@ -109,11 +109,11 @@ pub record NetWalked (g : Shape) (stamp n : ℕ) (w : List ℕ) (u : Turn) : Typ
   pub so-far : SoFar g (u .job) (u .plan) w
   pub older : Older (suc stamp) (tilesOf g w)
 
-pub record WalkedSome (g : Shape) (n m : ℕ) (w : List ℕ) : Type 0 where
+pub record WalkedSome (g : Shape) (n : ℕ) (m : ℕ → ℕ) (w : List ℕ) : Type 0 where
   pub turn : Turn
   pub stamp : ℕ
   pub walked : NetWalked g stamp n w turn
-  pub limit-is : m ≡ turnLimit turn
+  pub limit-is : (e : ℕ) → m e ≡ turnLimit turn e
 
 -- the layers are chosen, by walk place
 pub record NetChosen (g : Shape) (stamp n : ℕ) (w : List ℕ) (u : Turn) : Type 0 where

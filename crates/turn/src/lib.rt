@@ -1,5 +1,6 @@
 // One net of an accepted job takes its turn: it is read again and walked, its legal layers are found over the nets placed before it, its layers are
 // chosen and written into its stretch of the answer list, and one more net is on these layers.
+use flat::Limits;
 use layout::Shape;
 ghost use mathlib.Core.List.{List};
 ghost use mathlib.Core.Path.{_≡_};
@@ -7,6 +8,7 @@ ghost use Prim.Native.Nat.{ℕ, _*_, _≤_};
 ghost use lib.ListN.{length};
 ghost use Rattle.costs.specs.Mask.{spanOf, Charted};
 ghost use Rattle.engine.specs.Net.{Holds, HoldsNet, Placed};
+ghost use Rattle.flat.specs.Limited.{limitAt};
 ghost use Rattle.layout.specs.Areas.{chosenAt, engineAt, areasEnd};
 ghost use Rattle.layout.specs.Parts.{Outside};
 ghost use Rattle.layout.specs.Shapes.{Shaped};
@@ -18,16 +20,17 @@ ghost use Rattle.turn.specs.Turn.{Turn, turnLimit, turnVias, Before, Bef
 ghost use Rattle.turn.specs.Steps.{KnownEdges, LegalPut, engineOf, putBy, CanAnswer, listedLayers};
 
 // Puts the legal layers of the edge above each of n walk places but the first.
-fn put_legal(w: &mut [u32], g: Shape, n: usize, limit: u32)
+fn put_legal(w: &mut [u32], g: Shape, n: usize, limits: Limits)
     requires { ⌜ Shaped g ⌝ }
-    requires { ⌜ (areasEnd g ≤ length (now w)) × (1 ≤ n) × (n ≤ g .t) × (limit ≤ mostNets) ⌝ }
+    requires { ⌜ (areasEnd g ≤ length (now w)) × (1 ≤ n) × (n ≤ g .t) × ((e : ℕ) → limitAt limits e ≤ mostNets) ⌝ }
     requires { ⌜ SmallCapacities g (now w) × KnownEdges g n (now w) ⌝ }
-    ensures { λ _. ⌜ LegalPut g n limit (now (w .entry)) (now (w .exit)) ⌝ }
+    ensures { λ _. ⌜ LegalPut g n (limitAt limits) (now (w .entry)) (now (w .exit)) ⌝ }
 {
     let above = layout::above_at(g);
     let masks = layout::engine_at(g) + 2 * g.t;
     for i in 1..n {
         let edge = w[above + i] as usize;
+        let limit = flat::limit_at(limits, edge);
         let mask = tracks::legal(w, g, edge, limit);
         w[masks + i] = mask;
     }
@@ -91,15 +94,15 @@ fn read_and_walk(s: &[u8], pins: usize, edges: usize, w: &mut [u32], g: Shape, s
 }
 
 // Chooses the layers of the net with n tiles that is walked. Its vias.
-fn choose_layers(w: &mut [u32], g: Shape, n: usize, limit: u32, chart: &[u32; 256]) -> u32
+fn choose_layers(w: &mut [u32], g: Shape, n: usize, limits: Limits, chart: &[u32; 256]) -> u32
     requires { ⌜ Charted spanOf (now chart) ⌝ }
     requires { ⌜ Shaped g ⌝ }
     requires { ⌜ areasEnd g ≤ length (now w) ⌝ }
-    requires { ⌜ WalkedSome g n limit (now w) ⌝ }
-    ensures { λ r. ⌜ ((u : Turn) (stamp : ℕ) → NetWalked g stamp n (now (w .entry)) u → limit ≡ turnLimit u → NetChosen g stamp n (now (w .exit)) u × (r ≡ turnVias u)) ⌝ }
+    requires { ⌜ WalkedSome g n (limitAt limits) (now w) ⌝ }
+    ensures { λ r. ⌜ ((u : Turn) (stamp : ℕ) → NetWalked g stamp n (now (w .entry)) u → ((e : ℕ) → limitAt limits e ≡ turnLimit u e) → NetChosen g stamp n (now (w .exit)) u × (r ≡ turnVias u)) ⌝ }
     ensures { λ _. ⌜ length (now (w .exit)) ≡ length (now (w .entry)) ⌝ }
 {
-    put_legal(w, g, n, limit);
+    put_legal(w, g, n, limits);
     place(w, g, n, chart)
 }
 
@@ -116,7 +119,7 @@ fn write_layers(w: &mut [u32], g: Shape, n: usize, out: &mut [u8])
     tracks::occupy_all(w, g, n);
 }
 
-// A net takes its turn. Its lines stand at `pins` and `edges` of the text, `limit` is MO/K rounded up, and `out` is its own stretch of the answer list.
+// A net takes its turn. Its lines stand at `pins` and `edges` of the text, `limits` are those on one layer's overflow, and `out` is its own stretch of the answer list.
 // The caller knows, in its proof, the job and the plan so far: it says once to `requires` that this is some net's turn (`TurnSome`), and once more to
 // `ensures` which (`TurnAt`), and has the net's layers in `out`, its vias as the number returned, and the plan with this net in the working numbers.
 pub fn take_turn(
@@ -126,19 +129,19 @@ pub fn take_turn(
     w: &mut [u32],
     g: Shape,
     stamp: u32,
-    limit: u32,
+    limits: Limits,
     out: &mut [u8],
     chart: &[u32; 256],
 ) -> u32
     requires { ⌜ Charted spanOf (now chart) ⌝ }
     requires { ⌜ Shaped g ⌝ }
     requires { ⌜ (areasEnd g ≤ length (now w)) × (stamp ≤ 8192) ⌝ }
-    requires { ⌜ TurnSome (now s) pins edges g stamp limit (now w) (length (now out)) ⌝ }
-    ensures { λ r. ⌜ ((u : Turn) → TurnAt (now (s .entry)) pins edges g stamp limit (now (w .entry)) (length (now (out .entry))) u → TurnDone g stamp (now (w .exit)) (now (out .exit)) r u) ⌝ }
+    requires { ⌜ TurnSome (now s) pins edges g stamp (limitAt limits) (now w) (length (now out)) ⌝ }
+    ensures { λ r. ⌜ ((u : Turn) → TurnAt (now (s .entry)) pins edges g stamp (limitAt limits) (now (w .entry)) (length (now (out .entry))) u → TurnDone g stamp (now (w .exit)) (now (out .exit)) r u) ⌝ }
     ensures { λ _. ⌜ length (now (w .exit)) ≡ length (now (w .entry)) ⌝ }
 {
     let n = read_and_walk(s, pins, edges, w, g, stamp);
-    let vias = choose_layers(w, g, n, limit, chart);
+    let vias = choose_layers(w, g, n, limits, chart);
     write_layers(w, g, n, out);
     vias
 }

@@ -11,16 +11,17 @@ use Rattle.model.specs.Job.{Job}
 use Rattle.model.specs.Read.{Lent}
 use Rattle.placing.specs.Turns.{Start}
 use Rattle.placing.proofs.Loop.{Mid, mid-start, mid-end, turn, net-counted, net-number, row-turn, mid-next}
+use Rattle.flat.specs.Limited.{limitAt}
 use Rattle.placing.proofs.place_all.Statement.{statement}
 use Rattle.placing.proofs.place_all.Tie as tie
 
 abbrev Inv-loop : tie.InvT-loop
-Inv-loop s w₀ g table₀ n limit answer₀ chart vias₀ k₀ w table answer vias k =
+Inv-loop s w₀ g table₀ n limits answer₀ chart vias₀ k₀ w table answer vias k =
     (length w ≡ length w₀) × (length table ≡ length table₀) × (length answer ≡ length answer₀) × (k ≤ n) × (vias ≤ k * 4294967296)
-    × ((lent : Lent) (j : Job) (start : Start s g n limit w₀ table₀ (length answer₀) lent j) → Mid s g n w table answer₀ answer vias k lent j (start .accepted))
+    × ((lent : Lent) (j : Job) (start : Start s g n (limitAt limits) w₀ table₀ (length answer₀) lent j) → Mid s g n w table answer₀ answer vias k lent j (start .accepted))
 
 abbrev μ-loop : tie.MeasureT-loop
-μ-loop s w₀ g table₀ n limit answer₀ chart vias₀ k₀ w table answer vias k = n - k
+μ-loop s w₀ g table₀ n limits answer₀ chart vias₀ k₀ w table answer vias k = n - k
 
 sub-i : tie.Need-sub-i Inv-loop μ-loop
 sub-i c =
@@ -32,7 +33,7 @@ sub-i c =
     omega (
       arith,
       c .index .ensures .0 ∙ ap (λ (q : ℕ). getD (l .table) q 0) (c .before .before .turn-column .ensures .0),
-      net-counted (x .s .now) (x .g) (x .n) (x .limit) (x .w .now) (x .table .now) (length (x .answer .now)) (o .lent) (o .job) (o .start)
+      net-counted (x .s .now) (x .g) (x .n) (limitAt (x .limits)) (x .w .now) (x .table .now) (length (x .answer .now)) (o .lent) (o .job) (o .start)
           (l .w) (l .table) (x .answer .now) (l .answer) (l .vias) (l .k) (l .inv .5 (o .lent) (o .job) (o .start)) (c .before .before .before .loop-test .taken),
     )
 
@@ -58,17 +59,17 @@ turn-of-requires c κs =
             omega (
               arith,
               told,
-              net-number (x .s .now) (x .g) (x .n) (x .limit) (x .w .now) (x .table .now) (length (x .answer .now)) (o .lent) (o .job) (o .start)
+              net-number (x .s .now) (x .g) (x .n) (limitAt (x .limits)) (x .w .now) (x .table .now) (length (x .answer .now)) (o .lent) (o .job) (o .start)
                   (l .w) (l .table) (x .answer .now) (l .answer) (l .vias) (l .k) mid h,
             ),
             omega (arith, p .1 .0 .2, l .inv .1),
           ),
           record {
             turn =
-                turn (x .s .now) (x .g) (x .n) (x .limit) (x .w .now) (x .table .now) (length (x .answer .now)) (o .lent) (o .job) (o .start)
+                turn (x .s .now) (x .g) (x .n) (limitAt (x .limits)) (x .w .now) (x .table .now) (length (x .answer .now)) (o .lent) (o .job) (o .start)
                 (l .w) (l .table) (x .answer .now) (l .answer) (l .vias) (l .k) mid h;
             at =
-                row-turn (x .s .now) (x .g) (x .n) (x .limit) (x .w .now) (x .table .now) (length (x .answer .now)) (o .lent) (o .job) (o .start)
+                row-turn (x .s .now) (x .g) (x .n) (limitAt (x .limits)) (x .w .now) (x .table .now) (length (x .answer .now)) (o .lent) (o .job) (o .start)
                 (l .w) (l .table) (x .answer .now) (l .answer) (l .vias) (l .k) mid h (i .result - 1) (x .n + 1 + l .k) i-is refl (l .inv .2);
           },
         ),
@@ -91,12 +92,12 @@ loop-again c =
       omega (arith, l .inv .4, t .ok),
       λ lent j start.
           subst (λ (q : List ℕ). Mid (x .s .now) (x .g) (x .n) (t .last .1 .0) q (x .answer .now) (t .last .1 .1 .1 .1 .1 .1 .1 .0) (l .vias + t .result) (l .k + 1) lent j (start .accepted)) (sym (t .ensures .1 .0))
-          (mid-next (x .s .now) (x .g) (x .n) (x .limit) (x .w .now) (x .table .now) (length (x .answer .now)) lent j start
+          (mid-next (x .s .now) (x .g) (x .n) (limitAt (x .limits)) (x .w .now) (x .table .now) (length (x .answer .now)) lent j start
           (l .w) (l .table) (x .answer .now) (l .answer) (l .vias) (l .k) (l .inv .5 lent j start) h (i .result - 1) (x .n + 1 + l .k) i-is refl
           (t .last .1 .0) (t .last .1 .1 .1 .1 .1 .1 .1 .0) (t .result)
-          (t .ensures .0 (turn (x .s .now) (x .g) (x .n) (x .limit) (x .w .now) (x .table .now) (length (x .answer .now)) lent j start
+          (t .ensures .0 (turn (x .s .now) (x .g) (x .n) (limitAt (x .limits)) (x .w .now) (x .table .now) (length (x .answer .now)) lent j start
           (l .w) (l .table) (x .answer .now) (l .answer) (l .vias) (l .k) (l .inv .5 lent j start) h)
-          (row-turn (x .s .now) (x .g) (x .n) (x .limit) (x .w .now) (x .table .now) (length (x .answer .now)) lent j start
+          (row-turn (x .s .now) (x .g) (x .n) (limitAt (x .limits)) (x .w .now) (x .table .now) (length (x .answer .now)) lent j start
           (l .w) (l .table) (x .answer .now) (l .answer) (l .vias) (l .k) (l .inv .5 lent j start) h (i .result - 1) (x .n + 1 + l .k) i-is refl (l .inv .2)))),
     )
 
@@ -106,7 +107,7 @@ returns c =
     let x = z .args in
     let l = c .before .loop in (
       λ lent j start.
-          mid-end (x .s .now) (x .g) (x .n) (x .limit) (x .w .now) (x .table .now) (length (x .answer .now)) lent j start
+          mid-end (x .s .now) (x .g) (x .n) (limitAt (x .limits)) (x .w .now) (x .table .now) (length (x .answer .now)) lent j start
           (l .w) (l .table) (x .answer .now) (l .answer) (l .vias) (l .k) (l .inv .5 lent j start) (c .loop-test .left) (l .inv .2),
       (l .inv .0, l .inv .1, l .inv .2),
     )
@@ -122,7 +123,7 @@ place-all-spec =
       refl,
       omega arith,
       omega arith,
-      λ lent j start. mid-start (x .s .now) (x .g) (x .n) (x .limit) (x .w .now) (x .table .now) (length (x .answer .now)) lent j start (x .answer .now),
+      λ lent j start. mid-start (x .s .now) (x .g) (x .n) (limitAt (x .limits)) (x .w .now) (x .table .now) (length (x .answer .now)) lent j start (x .answer .now),
     ))
     (λ c κs. search needs) (λ c. search needs) (λ c. search needs) (λ c. search needs)
     sub-i

@@ -5,6 +5,7 @@ use native.Mathlib.Omega.{arith}
 use lib.ListN.{length}
 use borrow.Author.Needs.{needs}
 use Rattle.planning.proofs.Steps.{tiles-room, few-nets, few-demands, overflows-here, few-most, all-room, limit-told, placing-starts}
+use Rattle.flat.specs.Limited.{limitAt}
 use Rattle.planning.proofs.place_nets.Statement.{statement}
 use Rattle.planning.proofs.place_nets.Tie as tie
 
@@ -15,8 +16,8 @@ overflows-requires c κs =
     let o = z .pre in
     (o .turned .given .shaped, (tiles-room (x .s .now) (x .h) (x .w .now) (x .table .now) (length (x .answer .now)) (o .lent) (o .job) (o .turned), few-demands (x .s .now) (x .h) (x .w .now) (x .table .now) (length (x .answer .now)) (o .lent) (o .job) (o .turned)))
 
-limit-of-requires : tie.Need-limit-of-requires
-limit-of-requires c κs =
+limits-of-requires : tie.Need-limits-of-requires
+limits-of-requires c κs =
     let v = c .before .before in
     let z = v .before .before .before .before .before .before in
     let x = z .args in
@@ -27,7 +28,7 @@ limit-of-requires c κs =
 place-all-requires : tie.Need-place-all-requires
 place-all-requires c κs =
     let k : tie.After-chart = c .before .before .before .before in
-    let l : tie.After-limit-of = k .before in
+    let l : tie.After-limits-of = k .before in
     let v = l .before .before .before in
     let z = v .before .before .before .before .before .before in
     let x = z .args in
@@ -44,22 +45,26 @@ place-all-requires c κs =
           record {
             lent = o .lent;
             job = o .job;
-            start = placing-starts (x .s .now) (x .h) (x .w .now) (x .table .now) (length (x .answer .now)) (o .lent) (o .job) (o .turned) (v .overflows .last .0) (v .overflows .result) (v .overflows .ensures .0) (v .overflows .ensures .1) (l .limit-of .result) (l .limit-of .ensures);
+            start = placing-starts (x .s .now) (x .h) (x .w .now) (x .table .now) (length (x .answer .now)) (o .lent) (o .job) (o .turned) (v .overflows .last .0) (v .overflows .result) (v .overflows .ensures .0) (v .overflows .ensures .1) (limitAt (l .limits-of .result)) (l .limits-of .ensures);
           },
         ),
       ),
     )
 
+-- the nets are placed, seen from behind the last call
+abbrev after-placing : tie.After-largest-limit → tie.After-place-all
+after-placing c = c .before .before .before .before .before .before .before
+
 returns : tie.Need-returns
 returns c =
-    let y = c .before .before .before .before .before .before in
-    let l : tie.After-limit-of = y .before .before .before .before .before .before in
+    let y = after-placing c in
+    let l : tie.After-limits-of = y .before .before .before .before .before .before in
     let v = l .before .before .before in
     let x = v .before .before .before .before .before .before .args in (
       λ lent j at. record {
-        placed = y .place-all .ensures .0 lent j (placing-starts (x .s .now) (x .h) (x .w .now) (x .table .now) (length (x .answer .now)) lent j at (v .overflows .last .0) (v .overflows .result) (v .overflows .ensures .0) (v .overflows .ensures .1) (l .limit-of .result) (l .limit-of .ensures));
+        placed = y .place-all .ensures .0 lent j (placing-starts (x .s .now) (x .h) (x .w .now) (x .table .now) (length (x .answer .now)) lent j at (v .overflows .last .0) (v .overflows .result) (v .overflows .ensures .0) (v .overflows .ensures .1) (limitAt (l .limits-of .result)) (l .limits-of .ensures));
         total-is = overflows-here (x .s .now) (x .h) (x .w .now) (x .table .now) (length (x .answer .now)) lent j at (v .overflows .last .0) (v .overflows .result) (v .overflows .ensures .0) (v .overflows .ensures .1) .total;
-        maximum-is = limit-told (x .s .now) (x .h) (x .w .now) (x .table .now) (length (x .answer .now)) lent j at (v .overflows .last .0) (v .overflows .result) (v .overflows .ensures .0) (v .overflows .ensures .1) (l .limit-of .result) (l .limit-of .ensures);
+        maximum-is = limit-told (x .s .now) (x .h) (x .w .now) (x .table .now) (length (x .answer .now)) lent j at (v .overflows .last .0) (v .overflows .result) (v .overflows .ensures .0) (v .overflows .ensures .1) (c .largest-limit .result) (c .largest-limit .ensures 0 ∙ l .limits-of .ensures 0);
       },
       y .place-all .ensures .1 .0 ∙ v .overflows .ensures .1 .long,
     )
@@ -68,4 +73,4 @@ pub place-nets-spec : {M : Type 1} → statement M
 place-nets-spec =
     tie.close
     (tie.spec
-    overflows-requires limit-of-requires (λ c κs. search needs) place-all-requires (λ c. search needs) (λ c. search needs) (λ c. search needs) (λ c. search needs) returns)
+    overflows-requires limits-of-requires (λ c κs. search needs) place-all-requires (λ c κs. search needs) (λ c. search needs) (λ c. search needs) (λ c. search needs) (λ c. search needs) returns)

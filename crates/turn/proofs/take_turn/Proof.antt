@@ -5,6 +5,7 @@ use native.Mathlib.Omega.{arith}
 use lib.ListN.{length}
 use borrow.Author.Needs.{needs}
 use Rattle.turn.specs.Turn.{Turn, turnVias, TurnAt, NetWalked, NetChosen}
+use Rattle.flat.specs.Limited.{limitAt}
 use Rattle.turn.proofs.take_turn.Statement.{statement}
 use Rattle.turn.proofs.take_turn.Tie as tie
 
@@ -20,7 +21,7 @@ module _ (a : tie.After-read-and-walk) where
   z = a .before .before .before .before .before
 
   abbrev At : Turn → Type 0
-  At u = TurnAt (z .args .s .now) (z .args .pins) (z .args .edges) (z .args .g) (z .args .stamp) (z .args .limit) (z .args .w .now) (length (z .args .out .now)) u
+  At u = TurnAt (z .args .s .now) (z .args .pins) (z .args .edges) (z .args .g) (z .args .stamp) (limitAt (z .args .limits)) (z .args .w .now) (length (z .args .out .now)) u
 
   walked : (u : Turn) → At u → NetWalked (z .args .g) (z .args .stamp) (a .read-and-walk .result) (a .read-and-walk .last .1 .1 .1 .0) u
   walked u t = a .read-and-walk .ensures .0 u (t .before)
