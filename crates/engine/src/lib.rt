@@ -8,9 +8,9 @@ ghost use lib.Dec.{eqb, ltb};
 ghost use lib.ListN.{getD};
 ghost use lib.Seq.{sets};
 ghost use Rattle.model.specs.Job.{Job, Net};
-ghost use Rattle.theory.specs.engine.Loops.{comb, HasTurn, FirstTurn};
+ghost use Rattle.theory.specs.engine.Loops.{comb};
 ghost use Rattle.costs.specs.Mask.{spanOf, Charted};
-ghost use Rattle.costs.specs.Rows.{illegalCost, combinationCost, layersTried, Shape, RowsFrom};
+ghost use Rattle.costs.specs.Rows.{illegalCost, layersTried, Shape, RowsFrom};
 ghost use Rattle.engine.specs.Layers.{branchCost, branchMask, Attained, FirstCombination, FirstWritten, RootLeast, RootReady, RootChosen, TileReady, TileChosen, ChosenUpTo};
 ghost use Rattle.engine.specs.Net.{Holds, HoldsNet, Placed};
 
@@ -67,65 +67,6 @@ fn exceeds(chart: &[u32; 256], goal: u32, cost: u32, mask: u32) -> bool
     goal - cost < costs::span(chart, mask)
 }
 
-struct Combination {
-    a: usize,
-    b: usize,
-    c: usize,
-}
-
-// "the first combination, in rising order, that reaches this least cost": the loops are left at the first that costs `goal`. What costs more
-// already with its first branches and their vias is passed over.
-fn first_combination(
-    w: &[u32],
-    o: usize,
-    first: usize,
-    k: usize,
-    base: u32,
-    n1: usize,
-    n2: usize,
-    n3: usize,
-    goal: u32,
-    chart: &[u32; 256],
-) -> Combination
-    requires { ⌜ Charted spanOf (now chart) ⌝ }
-    requires { ⌜ k ≤ 3 ⌝ }
-    requires { ⌜ base < 256 ⌝ }
-    requires { ⌜ (n1 ≤ 8) × (n2 ≤ 8) × (n3 ≤ 8) ⌝ }
-    requires { ⌜ (first ≤ 65536) × (o ≤ 16777216) ⌝ }
-    requires { do ⌜ o + 8 * (first + k) ≤ (← ⟦w.len()⟧) ⌝ }
-    requires { ⌜ HasTurn n1 n2 n3 (combinationCost (now w) o first k base) goal ⌝ }
-    ensures { λ r. ⌜ FirstTurn n1 n2 n3 (combinationCost (now (w .entry)) o first k base) goal (r .a) (r .b) (r .c) ⌝ }
-{
-    let mut x = 1;
-    let mut y = 1;
-    let mut z = 1;
-    'search: for a in 0..n1 {
-        let p = branch_cost(w, o, first, k, 0, a);
-        let m1 = branch_mask(base, k, 0, a);
-        if exceeds(chart, goal, p, m1) {
-            continue;
-        }
-        for b in 0..n2 {
-            let q = branch_cost(w, o, first, k, 1, b);
-            let m2 = branch_mask(m1, k, 1, b);
-            if exceeds(chart, goal - p, q, m2) {
-                continue;
-            }
-            for c in 0..n3 {
-                let r = branch_cost(w, o, first, k, 2, c);
-                let m3 = branch_mask(m2, k, 2, c);
-                if reaches(chart, goal - p - q, r, m3) {
-                    x = a + 1;
-                    y = b + 1;
-                    z = c + 1;
-                    break 'search;
-                }
-            }
-        }
-    }
-    Combination { a: x, b: y, c: z }
-}
-
 // How many layers the loop of the j-th branch tries: one without a branch has one turn.
 fn layers_tried(j: usize, k: usize, layers: usize) -> usize
     requires { ⌜ layers ≤ 8 ⌝ }
@@ -138,30 +79,70 @@ fn layers_tried(j: usize, k: usize, layers: usize) -> usize
     1
 }
 
-// The first combination of k branches that costs `goal`.
-fn combination_of(
-    w: &[u32],
-    o: usize,
+// A tile whose branches are to get their layers: the tiles that they lead to begin at `first`, its pins and the layer above it are the set `base`,
+// and the combination that is looked for costs `goal`.
+struct Tile {
     first: usize,
-    k: usize,
-    layers: usize,
     base: u32,
     goal: u32,
+}
+
+struct Combination {
+    a: usize,
+    b: usize,
+    c: usize,
+}
+
+// "the first combination, in rising order, that reaches this least cost": the loops are left at the first that costs the goal. What costs more
+// already with its first branches and their vias is passed over.
+fn first_combination(
+    w: &[u32],
+    o: usize,
+    t: Tile,
+    k: usize,
+    layers: usize,
     chart: &[u32; 256],
 ) -> Combination
     requires { ⌜ Charted spanOf (now chart) ⌝ }
     requires { ⌜ k ≤ 3 ⌝ }
-    requires { ⌜ base < 256 ⌝ }
+    requires { ⌜ t .base < 256 ⌝ }
     requires { ⌜ (1 ≤ layers) × (layers ≤ 8) ⌝ }
-    requires { ⌜ (first ≤ 65536) × (o ≤ 16777216) ⌝ }
-    requires { do ⌜ o + 8 * (first + k) ≤ (← ⟦w.len()⟧) ⌝ }
-    requires { ⌜ Attained (now w) o first k layers base goal ⌝ }
-    ensures { λ r. ⌜ FirstCombination (now (w .entry)) o first k layers base goal (r .a) (r .b) (r .c) ⌝ }
+    requires { ⌜ (t .first ≤ 65536) × (o ≤ 16777216) ⌝ }
+    requires { do ⌜ o + 8 * (t .first + k) ≤ (← ⟦w.len()⟧) ⌝ }
+    requires { ⌜ Attained (now w) o (t .first) k layers (t .base) (t .goal) ⌝ }
+    ensures { λ r. ⌜ FirstCombination (now (w .entry)) o (t .first) k layers (t .base) (t .goal) (r .a) (r .b) (r .c) ⌝ }
 {
     let n1 = layers_tried(1, k, layers);
     let n2 = layers_tried(2, k, layers);
     let n3 = layers_tried(3, k, layers);
-    first_combination(w, o, first, k, base, n1, n2, n3, goal, chart)
+    let mut x = 1;
+    let mut y = 1;
+    let mut z = 1;
+    'search: for a in 0..n1 {
+        let p = branch_cost(w, o, t.first, k, 0, a);
+        let m1 = branch_mask(t.base, k, 0, a);
+        if exceeds(chart, t.goal, p, m1) {
+            continue;
+        }
+        for b in 0..n2 {
+            let q = branch_cost(w, o, t.first, k, 1, b);
+            let m2 = branch_mask(m1, k, 1, b);
+            if exceeds(chart, t.goal - p, q, m2) {
+                continue;
+            }
+            for c in 0..n3 {
+                let r = branch_cost(w, o, t.first, k, 2, c);
+                let m3 = branch_mask(m2, k, 2, c);
+                if reaches(chart, t.goal - p - q, r, m3) {
+                    x = a + 1;
+                    y = b + 1;
+                    z = c + 1;
+                    break 'search;
+                }
+            }
+        }
+    }
+    Combination { a: x, b: y, c: z }
 }
 
 // ---- the choice of layers
@@ -188,48 +169,39 @@ fn put_layers(w: &mut [u32], at: usize, k: usize, a: usize, b: usize, c: usize)
     w[at + 2] = c as u32;
 }
 
-// Chooses the layers of a tile's branches: the first combination that costs `goal`. On all eight layers the numbers of branches and layers are
+// Chooses the layers of a tile's k branches: the first combination that costs the goal. On all eight layers the numbers of branches and layers are
 // constants, so that loops without a branch fall away and the others have a known length.
-fn choose_branches(
-    w: &mut [u32],
-    m: usize,
-    first: usize,
-    k: usize,
-    layers: usize,
-    base: u32,
-    goal: u32,
-    chart: &[u32; 256],
-)
+fn choose_branches(w: &mut [u32], m: usize, t: Tile, k: usize, layers: usize, chart: &[u32; 256])
     requires { ⌜ Charted spanOf (now chart) ⌝ }
     requires { ⌜ k ≤ 3 ⌝ }
-    requires { ⌜ base < 256 ⌝ }
+    requires { ⌜ t .base < 256 ⌝ }
     requires { ⌜ (1 ≤ layers) × (layers ≤ 8) ⌝ }
-    requires { ⌜ (first + k ≤ m) × (m ≤ 65536) ⌝ }
+    requires { ⌜ (t .first + k ≤ m) × (m ≤ 65536) ⌝ }
     requires { do ⌜ 12 * m ≤ (← ⟦w.len()⟧) ⌝ }
-    requires { ⌜ Attained (now w) (4 * m) first k layers base goal ⌝ }
-    ensures { λ _. ⌜ FirstWritten (now (w .entry)) (now (w .exit)) m first k layers base goal ⌝ }
+    requires { ⌜ Attained (now w) (4 * m) (t .first) k layers (t .base) (t .goal) ⌝ }
+    ensures { λ _. ⌜ FirstWritten (now (w .entry)) (now (w .exit)) m (t .first) k layers (t .base) (t .goal) ⌝ }
 {
     let o = 4 * m;
-    let at = 3 * m + first;
+    let at = 3 * m + t.first;
     if layers == 8 {
         if k == 1 {
-            let t = combination_of(w, o, first, 1, 8, base, goal, chart);
-            put_layers(w, at, 1, t.a, t.b, t.c);
+            let l = first_combination(w, o, t, 1, 8, chart);
+            put_layers(w, at, 1, l.a, l.b, l.c);
             return;
         }
         if k == 2 {
-            let t = combination_of(w, o, first, 2, 8, base, goal, chart);
-            put_layers(w, at, 2, t.a, t.b, t.c);
+            let l = first_combination(w, o, t, 2, 8, chart);
+            put_layers(w, at, 2, l.a, l.b, l.c);
             return;
         }
         if k == 3 {
-            let t = combination_of(w, o, first, 3, 8, base, goal, chart);
-            put_layers(w, at, 3, t.a, t.b, t.c);
+            let l = first_combination(w, o, t, 3, 8, chart);
+            put_layers(w, at, 3, l.a, l.b, l.c);
             return;
         }
     }
-    let t = combination_of(w, o, first, k, layers, base, goal, chart);
-    put_layers(w, at, k, t.a, t.b, t.c);
+    let l = first_combination(w, o, t, k, layers, chart);
+    put_layers(w, at, k, l.a, l.b, l.c);
 }
 
 // Chooses the layers of the branches of tile i, which is not the root and has its own layer already.
@@ -248,7 +220,8 @@ fn choose_below(w: &mut [u32], m: usize, i: usize, layers: usize, chart: &[u32; 
     let l = costs::at(w, 3 * m + i);
     let goal = costs::at(w, 4 * m + 8 * i + (l - 1)) as u32;
     let base = costs::with_layer(costs::at(w, m + i) as u32, l);
-    choose_branches(w, m, first, end - first, layers, base, goal, chart);
+    let t = Tile { first, base, goal };
+    choose_branches(w, m, t, end - first, layers, chart);
 }
 
 // Chooses the layers of the root's branches. The root has no layer above it.
@@ -261,7 +234,12 @@ fn choose_root(w: &mut [u32], m: usize, layers: usize, goal: u32, chart: &[u32; 
 {
     let end = costs::at(w, 0);
     let pins = costs::at(w, m) as u32;
-    choose_branches(w, m, 1, end - 1, layers, pins, goal, chart);
+    let t = Tile {
+        first: 1,
+        base: pins,
+        goal,
+    };
+    choose_branches(w, m, t, end - 1, layers, chart);
 }
 
 // Chooses the layers of all edges from the cost rows, the root's branches first, and returns the least cost of the root. There must be a way:

@@ -18,7 +18,7 @@ use Rattle.net.specs.Table.{PinsAt, EdgesAt, Row}
 use Rattle.theory.specs.links.Planned.{same-net, turn-edges, turn-inside}
 use Rattle.theory.specs.links.Stretches.{offset, offset-room, cut-sets}
 use Rattle.turn.specs.Turn.{Turn, turnNet, turnLayers, TurnAt, TurnDone}
-use Rattle.placing.specs.Turns.{RowTurn, RowDone}
+use Rattle.placing.specs.Turns.{rowOf, RowTurn, RowDone}
 use Rattle.placing.specs.declared.NetRow.{NetRow}
 
 -- what lies beyond a stretch that is written
@@ -69,8 +69,19 @@ module _ (s : List ℕ) (g : Shape) (stamp : ℕ) (m : ℕ → ℕ) (w table ans
   stretch-in = omega (arith, row .first, count-is, stretch, at .room)
 
   -- the row as the code has it
-  module _ (r : NetRow) (pins-is : r .pins ≡ getD table (pinsColumn i) 0) (edges-is : r .edges ≡ getD table (edgesColumn i) 0)
-      (first-is : r .first ≡ getD table (firstColumn i) 0) (counted : r .count ≡ getD table (countColumn i) 0) where
+  module _ (r : NetRow) (is-row : r ≡ rowOf table i) where
+    pins-is : r .pins ≡ getD table (pinsColumn i) 0
+    pins-is = ap (λ (n : NetRow). n .pins) is-row
+
+    edges-is : r .edges ≡ getD table (edgesColumn i) 0
+    edges-is = ap (λ (n : NetRow). n .edges) is-row
+
+    first-is : r .first ≡ getD table (firstColumn i) 0
+    first-is = ap (λ (n : NetRow). n .first) is-row
+
+    counted : r .count ≡ getD table (countColumn i) 0
+    counted = ap (λ (n : NetRow). n .count) is-row
+
     size : r .first + r .count - r .first ≡ length (turnNet u .edges)
     size = omega (arith, counted, count-is)
 

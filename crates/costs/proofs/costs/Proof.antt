@@ -19,16 +19,18 @@ abbrev μ-loop : tie.MeasureT-loop
 
 tile-row-requires : tie.Need-tile-row-requires Inv-loop μ-loop
 tile-row-requires c κs =
-    let s = c .before .before .before .before in
+    let l : tie.At-loop Inv-loop μ-loop = c .before .before in
+    let s : tie.Start Inv-loop μ-loop = l .before .before in
     let g = s .args in
-    let p = c .before .before .loop in
+    let p = l .loop in
     (s .pre .0, (shape-kept (g .w .now) (p .w) (g .m) (g .n) (g .layers) (p .i) (s .pre .1) (p .inv .3), (omega arith, omega arith)))
 
 loop-again : tie.Need-loop-again Inv-loop μ-loop
 loop-again c =
-    let s = c .before .before .before .before .before .before .before in
+    let l : tie.At-loop Inv-loop μ-loop = c .before .before .before .before .before in
+    let s : tie.Start Inv-loop μ-loop = l .before .before in
     let g = s .args in
-    let p = c .before .before .before .before .before .loop in
+    let p = l .loop in
     let r = c .before .before .tile-row in (
       omega arith,
       omega arith,

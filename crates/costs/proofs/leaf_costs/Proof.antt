@@ -1,4 +1,4 @@
--- `leaf_costs` meets its contract.
+-- `leaf_costs` meets its contract. The loop's invariant: the layers below l have the vias of the pins with that layer.
 -- Assumes nothing.
 use mathlib.Core.Path.{_≡_, refl, _∙_, ap}
 use Prim.Native.Nat.{suc, _-_}
@@ -20,8 +20,10 @@ abbrev μ-loop : tie.MeasureT-loop
 
 loop-again : tie.Need-loop-again Inv-loop μ-loop
 loop-again c =
+    let l : tie.At-loop Inv-loop μ-loop = c .before .before .before in
+    let s : tie.Start Inv-loop μ-loop = l .before .before in
     eight-more _ _ _ _ _ (omega arith)
-    (c .span .ensures .0 ∙ ap spanOf (c .before .with-layer .ensures .0 ∙ ap (withLayer (c .before .before .before .before .before .args .pins)) (add-one (c .before .before .before .loop .l)))) (c .before .before .before .loop .inv)
+    (c .span .ensures .0 ∙ ap spanOf (c .before .with-layer .ensures .0 ∙ ap (withLayer (s .args .pins)) (add-one (l .loop .l)))) (l .loop .inv)
 
 pub leaf-costs-spec : {M : Type 1} → statement M
 leaf-costs-spec =

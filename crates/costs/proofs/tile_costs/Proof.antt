@@ -16,7 +16,7 @@ returns c =
 
 eight-costs-requires : tie.Need-eight-costs-requires
 eight-costs-requires c κs =
-    let s = c .before .before .before in
+    let s : tie.Start = c .before .before .before in
     (s .pre .0, ((omega arith, omega arith), (subst (λ (x : ℕ). LayerMask x (s .args .pins)) (c .if2 .taken) (s .pre .1 .1 .0), ((omega arith, omega arith), omega arith))))
 
 returns-2 : tie.Need-returns-2
@@ -31,12 +31,12 @@ returns-3 c =
 
 interval-costs-requires : tie.Need-interval-costs-requires
 interval-costs-requires c κs =
-    let s = c .before .before .before .before .before in
+    let s : tie.Start = c .before .before .before .before .before in
     ((omega arith, c .pin-ends .ensures .deep, omega arith), ((omega arith, omega arith), omega arith))
 
 returns-4 : tie.Need-returns-4
 returns-4 c =
-    let s = c .before .before .before .before .before .before in
+    let s : tie.Start = c .before .before .before .before .before .before in
     let g = s .args in
     interval-costs (g .w .now) (g .o) (g .first) (g .k) (g .layers) (g .pins) _ _ (c .interval-costs .result) (omega arith) (omega arith) (omega arith) (s .pre .1 .1 .0)
     (c .before .pin-ends .ensures) (c .interval-costs .ensures)
@@ -44,5 +44,5 @@ returns-4 c =
 pub tile-costs-spec : {M : Type 1} → statement M
 tile-costs-spec =
     tie.close
-    (tie.spec (λ c κs. let s = c .before .before in (s .pre .0, s .pre .1 .1 .0 .small)) returns eight-costs-requires returns-2 (λ c. search needs) (λ c. search needs) (λ c κs. search needs) returns-3
+    (tie.spec (λ c κs. let s : tie.Start = c .before .before in (s .pre .0, s .pre .1 .1 .0 .small)) returns eight-costs-requires returns-2 (λ c. search needs) (λ c. search needs) (λ c κs. search needs) returns-3
     (λ c κs. ((omega arith, omega arith), c .before .before .before .before .pre .1 .1 .0)) interval-costs-requires returns-4)

@@ -22,61 +22,82 @@ Inv-loop w₀ m n layers chart least i₀ w i =
 abbrev μ-loop : tie.MeasureT-loop
 μ-loop w₀ m n layers chart least i₀ w i = n - i
 
+-- the root's least cost is found
+module _ (r : tie.After-root-least Inv-loop μ-loop) where
+  abbrev s : tie.Start Inv-loop μ-loop
+  s = r .before .before .before
+
+  abbrev shape : Shape (s .args .w .now) (s .args .m) (s .args .n) (s .args .layers)
+  shape = s .pre .1 .0
+
+  abbrev rows : RowsFrom (s .args .w .now) (s .args .w .now) (s .args .m) (s .args .n) (s .args .layers) 1
+  rows = s .pre .1 .1 .0
+
+  small : r .root-least .result < illegalCost
+  small = s .pre .1 .1 .1 (r .root-least .result) (r .root-least .ensures)
+
 choose-root-requires : tie.Need-choose-root-requires Inv-loop μ-loop
 choose-root-requires c κs =
-    let s = c .before .before .before .before in
-    let g = s .args in
-    let h = s .pre .1 .0 in (
-      s .pre .0,
+    let r : tie.After-root-least Inv-loop μ-loop = c .before in
+    let g = s r .args in
+    let h = shape r in (
+      s r .pre .0,
       (
-        root-ready (g .w .now) (g .m) (g .n) (g .layers) (c .before .root-least .result) h (c .before .root-least .ensures)
-            (s .pre .1 .1 .1 (c .before .root-least .result) (c .before .root-least .ensures)),
+        root-ready (g .w .now) (g .m) (g .n) (g .layers) (r .root-least .result) h (r .root-least .ensures) (small r),
         ((h .small, omega (arith, h .tiles, h .fits), h .some, h .deep), h .room),
       ),
     )
 
+-- the root's branches have their layers
+module _ (b : tie.After-choose-root Inv-loop μ-loop) where
+  abbrev root : tie.After-root-least Inv-loop μ-loop
+  root = b .before .before
+
+  started : ChosenUpTo (s root .args .w .now) (b .choose-root .last .0) (s root .args .m) (s root .args .n) (s root .args .layers) (root .root-least .result) 1
+  started =
+      let g = s root .args in
+      chosen-start (g .w .now) (g .m) (g .n) (g .layers) (root .root-least .result) (shape root) (rows root) (small root) (b .choose-root .last .0) (b .choose-root .ensures)
+
 loop-holds : tie.Need-loop-holds Inv-loop μ-loop
-loop-holds c = (omega arith, omega (arith, c .before .before .before .before .before .before .before .pre .1 .0 .tiles), refl, λ v s r l p. p)
+loop-holds c = (omega arith, omega (arith, shape (c .before .before .before .before) .tiles), refl, λ v s r l p. p)
 
 choose-below-requires : tie.Need-choose-below-requires Inv-loop μ-loop
 choose-below-requires c κs =
-    let s = c .before .before .before .before .before .before .before .before .before .before in
-    let g = s .args in
-    let h = s .pre .1 .0 in
-    let p = c .before .before .loop in
-    let v = c .before .before .before .before .before .before .before .root-least .result in
-    let l = s .pre .1 .1 .1 v (c .before .before .before .before .before .before .before .root-least .ensures) in
-    let q = p .inv .3 (g .w .now) h (s .pre .1 .1 .0) l (chosen-start (g .w .now) (g .m) (g .n) (g .layers) v h (s .pre .1 .1 .0) l (c .before .before .before .before .before .choose-root .last .0) (c .before .before .before .before .before .choose-root .ensures)) in (
-      s .pre .0,
+    let l : tie.At-loop Inv-loop μ-loop = c .before .before in
+    let b : tie.After-choose-root Inv-loop μ-loop = l .before .before .before in
+    let r : tie.After-root-least Inv-loop μ-loop = root b in
+    let g = s r .args in
+    let h = shape r in
+    let q = l .loop .inv .3 (g .w .now) h (rows r) (small r) (started b) in (
+      s r .pre .0,
       (
-        tile-ready (g .w .now) (g .m) (g .n) (g .layers) v h (s .pre .1 .1 .0) l (p .w) (p .i) q (omega arith) (omega arith),
+        tile-ready (g .w .now) (g .m) (g .n) (g .layers) (r .root-least .result) h (rows r) (small r) (l .loop .w) (l .loop .i) q (omega arith) (omega arith),
         ((h .small, omega arith, omega (arith, h .fits), h .some, h .deep), omega (arith, h .room, q .long)),
       ),
     )
 
 loop-again : tie.Need-loop-again Inv-loop μ-loop
 loop-again c =
-    let g = c .before .before .before .before .before .before .before .before .before .before .before .before .before .args in
-    let p = c .before .before .before .before .before .loop in
-    let r = c .before .before .choose-below in (
+    let l : tie.At-loop Inv-loop μ-loop = c .before .before .before .before .before in
+    let r : tie.After-root-least Inv-loop μ-loop = root (l .before .before .before) in
+    let g = s r .args in
+    let p = l .loop in
+    let d = c .before .before .choose-below in (
       omega arith,
       omega arith,
-      r .kept .0 ∙ p .inv .2,
-      λ v s t l q.
-          chosen-step v (g .m) (g .n) (g .layers) (c .before .before .before .before .before .before .before .before .before .before .root-least .result) s t l (p .w) (p .i) (p .inv .3 v s t l q) (omega arith) (omega arith) (r .last .0) (r .ensures),
+      d .kept .0 ∙ p .inv .2,
+      λ v e t k q. chosen-step v (g .m) (g .n) (g .layers) (r .root-least .result) e t k (p .w) (p .i) (p .inv .3 v e t k q) (omega arith) (omega arith) (d .last .0) (d .ensures),
     )
 
 returns : tie.Need-returns Inv-loop μ-loop
 returns c =
-    let s = c .before .before .before .before .before .before .before .before .before in
-    let g = s .args in
-    let h = s .pre .1 .0 in
-    let p = c .before .loop in
-    let v = c .before .before .before .before .before .before .root-least .result in
-    let l = s .pre .1 .1 .1 v (c .before .before .before .before .before .before .root-least .ensures) in (
-      c .before .before .before .before .before .before .root-least .ensures,
-      chosen-all (g .w .now) (p .w) (g .m) (g .n) (g .layers) v (p .i) (omega arith)
-          (p .inv .3 (g .w .now) h (s .pre .1 .1 .0) l (chosen-start (g .w .now) (g .m) (g .n) (g .layers) v h (s .pre .1 .1 .0) l (c .before .before .before .before .choose-root .last .0) (c .before .before .before .before .choose-root .ensures))),
+    let l : tie.At-loop Inv-loop μ-loop = c .before in
+    let b : tie.After-choose-root Inv-loop μ-loop = l .before .before .before in
+    let r : tie.After-root-least Inv-loop μ-loop = root b in
+    let g = s r .args in
+    let p = l .loop in (
+      r .root-least .ensures,
+      chosen-all (g .w .now) (p .w) (g .m) (g .n) (g .layers) (r .root-least .result) (p .i) (omega arith) (p .inv .3 (g .w .now) (shape r) (rows r) (small r) (started b)),
     )
 
 pub choose-spec : {M : Type 1} → statement M

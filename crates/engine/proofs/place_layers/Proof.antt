@@ -1,4 +1,4 @@
--- `place_layers` meets its contract.
+-- `place_layers` meets its contract: the net's rows are written, and its layers chosen from them.
 -- Assumes nothing.
 use borrow.Author.Needs.{needs}
 use Rattle.engine.proofs.Best.{net-shape, rows-self, holds-kept, net-small, net-placed}
@@ -8,21 +8,24 @@ use Rattle.engine.proofs.place_layers.Tie as tie
 
 costs-requires : tie.Need-costs-requires
 costs-requires c κs =
-    let g = c .before .before .args in
-    let h = c .before .before .pre .1 in
-    (c .before .before .pre .0, net-shape (h .job) (h .net) (h .allowed) (g .w .now) (g .m) (g .n) (g .layers) (h .holds))
+    let s : tie.Start = c .before .before in
+    let g = s .args in
+    let h = s .pre .1 in
+    (s .pre .0, net-shape (h .job) (h .net) (h .allowed) (g .w .now) (g .m) (g .n) (g .layers) (h .holds))
 
 choose-requires : tie.Need-choose-requires
 choose-requires c κs =
-    let g = c .before .before .before .before .before .before .args in
-    let h = c .before .before .before .before .before .before .pre .1 in
-    let u = c .before .before .before .costs .last .0 in
-    let r = c .before .before .before .costs .ensures in
-    let s = net-shape (h .job) (h .net) (h .allowed) (g .w .now) (g .m) (g .n) (g .layers) (h .holds) in
-    let own = rows-self (g .w .now) u (g .m) (g .n) (g .layers) s r in (
-      c .before .before .before .before .before .before .pre .0,
+    let b : tie.After-costs = c .before .before .before in
+    let s : tie.Start = b .before .before .before in
+    let g = s .args in
+    let h = s .pre .1 in
+    let u = b .costs .last .0 in
+    let r = b .costs .ensures in
+    let shape = net-shape (h .job) (h .net) (h .allowed) (g .w .now) (g .m) (g .n) (g .layers) (h .holds) in
+    let own = rows-self (g .w .now) u (g .m) (g .n) (g .layers) shape r in (
+      s .pre .0,
       (
-        shape-kept (g .w .now) u (g .m) (g .n) (g .layers) 1 s r,
+        shape-kept (g .w .now) u (g .m) (g .n) (g .layers) 1 shape r,
         (
           own,
           net-small (h .job) (h .net) (h .allowed) u (g .m) (g .n) (g .layers) (holds-kept (h .job) (h .net) (h .allowed) (g .w .now) u (g .m) (g .n) (g .layers) (h .holds) r) own,
@@ -32,10 +35,12 @@ choose-requires c κs =
 
 returns : tie.Need-returns
 returns c =
-    let g = c .before .before .before .before .before .before .before .before .before .args in
+    let d : tie.After-choose = c .before .before in
+    let b : tie.After-costs = d .before .before .before .before in
+    let s : tie.Start = b .before .before .before in
+    let g = s .args in
     λ j net allowed h.
-    net-placed j net allowed (g .w .now) (c .before .before .before .before .before .before .costs .last .0) (c .before .before .choose .last .0) (g .m) (g .n) (g .layers) (c .before .before .choose .result) h (c .before .before .before .before .before .before .costs .ensures)
-    (c .before .before .choose .ensures .0) (c .before .before .choose .ensures .1)
+    net-placed j net allowed (g .w .now) (b .costs .last .0) (d .choose .last .0) (g .m) (g .n) (g .layers) (d .choose .result) h (b .costs .ensures) (d .choose .ensures .0) (d .choose .ensures .1)
 
 pub place-layers-spec : {M : Type 1} → statement M
 place-layers-spec = tie.close (tie.spec costs-requires choose-requires (λ c. search needs) returns)

@@ -25,11 +25,11 @@ abbrev μ-loop : tie.MeasureT-loop
 
 sub-i : tie.Need-sub-i Inv-loop μ-loop
 sub-i c =
-    let l = c .before .before .before .before in
-    let z = l .before .before .before .before .before in
+    let k : tie.At-loop Inv-loop μ-loop = c .before .before .before .before in
+    let z : tie.Start Inv-loop μ-loop = k .before .before .before .before .before in
     let x = z .args in
     let o = z .pre .1 .1 .1 in
-    let l = l .loop in
+    let l = k .loop in
     omega (
       arith,
       c .index .ensures .0 ∙ ap (λ (q : ℕ). getD (l .table) q 0) (c .before .before .turn-column .ensures .0),
@@ -39,11 +39,12 @@ sub-i c =
 
 turn-of-requires : tie.Need-turn-of-requires Inv-loop μ-loop
 turn-of-requires c κs =
-    let z = c .before .before .before .before .before .before .before .before .before .before .before .before in
+    let k : tie.At-loop Inv-loop μ-loop = c .before .before .before .before .before .before .before in
+    let z : tie.Start Inv-loop μ-loop = k .before .before .before .before .before in
     let x = z .args in
     let p = z .pre .1 in
     let o = p .1 .1 in
-    let l = c .before .before .before .before .before .before .before .loop in
+    let l = k .loop in
     let h = c .before .before .before .before .before .before .loop-test .taken in
     let i = c .before .before .before .index in
     let told = i .ensures .0 ∙ ap (λ (q : ℕ). getD (l .table) q 0) (c .before .before .before .before .before .turn-column .ensures .0) in
@@ -78,9 +79,10 @@ turn-of-requires c κs =
 
 loop-again : tie.Need-loop-again Inv-loop μ-loop
 loop-again c =
-    let z = c .before .before .before .before .before .before .before .before .before .before .before .before .before .before .before .before .before .before .before in
+    let k : tie.At-loop Inv-loop μ-loop = c .before .before .before .before .before .before .before .before .before .before .before .before .before .before in
+    let z : tie.Start Inv-loop μ-loop = k .before .before .before .before .before in
     let x = z .args in
-    let l = c .before .before .before .before .before .before .before .before .before .before .before .before .before .before .loop in
+    let l = k .loop in
     let h = c .before .before .before .before .before .before .before .before .before .before .before .before .before .loop-test .taken in
     let i = c .before .before .before .before .before .before .before .before .before .before .index in
     let t = c .before .before .before .before .before .before .turn-of in
@@ -103,9 +105,10 @@ loop-again c =
 
 returns : tie.Need-returns Inv-loop μ-loop
 returns c =
-    let z = c .before .before .before .before .before .before in
+    let k : tie.At-loop Inv-loop μ-loop = c .before in
+    let z : tie.Start Inv-loop μ-loop = k .before .before .before .before .before in
     let x = z .args in
-    let l = c .before .loop in (
+    let l = k .loop in (
       λ lent j start.
           mid-end (x .s .now) (x .g) (x .n) (limitAt (x .limits)) (x .w .now) (x .table .now) (length (x .answer .now)) lent j start
           (l .w) (l .table) (x .answer .now) (l .answer) (l .vias) (l .k) (l .inv .5 lent j start) (c .loop-test .left) (l .inv .2),

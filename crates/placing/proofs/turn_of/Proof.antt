@@ -1,10 +1,9 @@
--- `turn_of` meets its contract.
+-- `turn_of` meets its contract: the net's row says where its lines and its stretch are, and its turn is taken there.
 -- Assumes nothing.
 use mathlib.Core.Path.{ap}
 use Prim.Native.Nat.{ℕ}
 use lib.ListN.{set}
 use borrow.Author.Needs.{needs}
-use Rattle.placing.specs.declared.NetRow.{NetRow}
 use Rattle.placing.proofs.Row.{lent-inside, turn-at, answer-long, row-done}
 use Rattle.flat.specs.Limited.{limitAt}
 use Rattle.placing.proofs.turn_of.Statement.{statement}
@@ -12,22 +11,19 @@ use Rattle.placing.proofs.turn_of.Tie as tie
 
 part-take-turn-end : tie.Need-part-take-turn-end
 part-take-turn-end c =
-    let z = c .before .before .before .before .before .before .before .before in
+    let b : tie.After-row-of = c .before .before in
+    let z : tie.Start = b .before .before .before .before .before .before in
     let x = z .args in
     let u = z .pre .1 .1 .1 in
-    let r = c .before .before .row-of in
-    let e = r .ensures .0 in
-    lent-inside (x .s .now) (x .g) (x .stamp) (limitAt (x .limits)) (x .w .now) (x .table .now) (x .answer .now) (x .i) (u .turn) (u .at) (r .result)
-    (ap (λ (n : NetRow). n .pins) e) (ap (λ (n : NetRow). n .edges) e) (ap (λ (n : NetRow). n .first) e) (ap (λ (n : NetRow). n .count) e)
+    lent-inside (x .s .now) (x .g) (x .stamp) (limitAt (x .limits)) (x .w .now) (x .table .now) (x .answer .now) (x .i) (u .turn) (u .at) (b .row-of .result) (b .row-of .ensures .0)
 
 take-turn-requires : tie.Need-take-turn-requires
 take-turn-requires c κs =
-    let z = c .before .before .before .before .before .before .before .before .before in
+    let b : tie.After-row-of = c .before .before .before in
+    let z : tie.Start = b .before .before .before .before .before .before in
     let x = z .args in
     let p = z .pre .1 in
-    let u = p .1 .1 in
-    let r = c .before .before .before .row-of in
-    let e = r .ensures .0 in (
+    let u = p .1 .1 in (
       z .pre .0,
       (
         p .0,
@@ -35,9 +31,7 @@ take-turn-requires c κs =
           (p .1 .0 .0, p .1 .0 .1),
           record {
             turn = u .turn;
-            at =
-                turn-at (x .s .now) (x .g) (x .stamp) (limitAt (x .limits)) (x .w .now) (x .table .now) (x .answer .now) (x .i) (u .turn) (u .at) (r .result)
-                (ap (λ (n : NetRow). n .pins) e) (ap (λ (n : NetRow). n .edges) e) (ap (λ (n : NetRow). n .first) e) (ap (λ (n : NetRow). n .count) e);
+            at = turn-at (x .s .now) (x .g) (x .stamp) (limitAt (x .limits)) (x .w .now) (x .table .now) (x .answer .now) (x .i) (u .turn) (u .at) (b .row-of .result) (b .row-of .ensures .0);
           },
         ),
       ),
@@ -45,29 +39,24 @@ take-turn-requires c κs =
 
 returns : tie.Need-returns
 returns c =
-    let z = c .before .before .before .before .before .before .before .before .before .before .before .before .before .before .before in
+    let d : tie.After-take-turn = c .before .before .before .before .before in
+    let b : tie.After-row-of = d .before .before .before .before in
+    let z : tie.Start = b .before .before .before .before .before .before in
     let x = z .args in
-    let r = c .before .before .before .before .before .before .before .before .before .row-of in
-    let e = r .ensures .0 in
+    let r = b .row-of in
     let o = z .pre .1 .1 .1 in
-    let t = c .before .before .before .before .before .take-turn in (
+    let t = d .take-turn in
+    let w = t .last .1 .1 .1 .0 in
+    let out = t .last .1 .1 .1 .1 .1 .1 .1 .0 in (
       λ u k.
-          row-done (x .s .now) (x .g) (x .stamp) (limitAt (x .limits)) (x .w .now) (x .table .now) (x .answer .now) (x .i) u k (r .result)
-          (ap (λ (n : NetRow). n .pins) e) (ap (λ (n : NetRow). n .edges) e) (ap (λ (n : NetRow). n .first) e) (ap (λ (n : NetRow). n .count) e)
-          (t .last .1 .1 .1 .0) (t .last .1 .1 .1 .1 .1 .1 .1 .0) (t .result)
-          (t .ensures .0 u
-          (turn-at (x .s .now) (x .g) (x .stamp) (limitAt (x .limits)) (x .w .now) (x .table .now) (x .answer .now) (x .i) u k (r .result)
-          (ap (λ (n : NetRow). n .pins) e) (ap (λ (n : NetRow). n .edges) e) (ap (λ (n : NetRow). n .first) e) (ap (λ (n : NetRow). n .count) e))),
+          row-done (x .s .now) (x .g) (x .stamp) (limitAt (x .limits)) (x .w .now) (x .table .now) (x .answer .now) (x .i) u k (r .result) (r .ensures .0) w out (t .result)
+          (t .ensures .0 u (turn-at (x .s .now) (x .g) (x .stamp) (limitAt (x .limits)) (x .w .now) (x .table .now) (x .answer .now) (x .i) u k (r .result) (r .ensures .0))),
       (
         ap (λ (k : ℕ). set (x .table .now) k (t .result)) (c .vias-column .ensures .0),
         (
           t .ensures .1,
-          answer-long (x .s .now) (x .g) (x .stamp) (limitAt (x .limits)) (x .w .now) (x .table .now) (x .answer .now) (x .i) (o .turn) (o .at) (r .result)
-              (ap (λ (n : NetRow). n .pins) e) (ap (λ (n : NetRow). n .edges) e) (ap (λ (n : NetRow). n .first) e) (ap (λ (n : NetRow). n .count) e)
-              (t .last .1 .1 .1 .0) (t .last .1 .1 .1 .1 .1 .1 .1 .0) (t .result)
-              (t .ensures .0 (o .turn)
-              (turn-at (x .s .now) (x .g) (x .stamp) (limitAt (x .limits)) (x .w .now) (x .table .now) (x .answer .now) (x .i) (o .turn) (o .at) (r .result)
-              (ap (λ (n : NetRow). n .pins) e) (ap (λ (n : NetRow). n .edges) e) (ap (λ (n : NetRow). n .first) e) (ap (λ (n : NetRow). n .count) e))),
+          answer-long (x .s .now) (x .g) (x .stamp) (limitAt (x .limits)) (x .w .now) (x .table .now) (x .answer .now) (x .i) (o .turn) (o .at) (r .result) (r .ensures .0) w out (t .result)
+              (t .ensures .0 (o .turn) (turn-at (x .s .now) (x .g) (x .stamp) (limitAt (x .limits)) (x .w .now) (x .table .now) (x .answer .now) (x .i) (o .turn) (o .at) (r .result) (r .ensures .0))),
         ),
       ),
     )
