@@ -13,5 +13,5 @@ toldIn (refused n l) = record { number = n; line = l }
 toldIn (found j p) = record { number = 0; line = 0 }
 
 abbrev pub toldBy : JobRead → Told
-toldBy (accepted h entries) = record { number = 0; line = 0 }
+toldBy (accepted h) = record { number = 0; line = 0 }
 toldBy (Refused r) = record { number = numberOf r; line = lineOf r }

@@ -38,7 +38,7 @@ fn answer_told(r: JobRead) -> Told
     ensures { λ t. ⌜ t ≡ toldBy r ⌝ }
 {
     match r {
-        JobRead::Job(_, _) => Told { number: 0, line: 0 },
+        JobRead::Job(_) => Told { number: 0, line: 0 },
         JobRead::Refused(f) => {
             let number = text::number_of(f);
             let line = text::line_of(f);

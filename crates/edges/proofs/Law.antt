@@ -5,27 +5,29 @@ use mathlib.Core.List.{List, [], map}
 use mathlib.Core.Option.{Option, none, some}
 use mathlib.Core.Path.{_≡_, refl, sym, ap, _∙_}
 use Prim.Native.Nat.{ℕ, suc, _+_, _≤_}
-use native.Mathlib.Numerals.{add-one}
 use native.Mathlib.Omega.{arith}
 use lib.Dec.{eqb}
 use lib.ListN.{length, drop, getD, drop-of-length-le}
-use lib.Seq.{drop-drop}
 use Rattle.layout.specs.declared.Shape.{Shape}
 use Rattle.model.specs.Job.{Pin}
 use Rattle.model.specs.Lists.{all, twice}
 use Rattle.model.specs.Read.{Place, Result, refused, found, Reading as Reads, next, _>>=_, _>>_, give, form, need, line, Triple, edgeEntries, edgeInside, edgeAt, edgesLine}
-use Rattle.model.specs.Text.{bytes, cutLine}
+use Rattle.model.specs.Text.{bytes, cutLine, behind}
 use Rattle.model.specs.Tree.{ring, joined}
-use Rattle.scan.specs.Keys.{behind-is}
 use Rattle.scan.specs.Lines.{Lined}
 use Rattle.scan.specs.Places.{drop-byte, getD-in, head-drop}
-use Rattle.scan.specs.Ways.{edgesOf, edgesCut, edgesIn, edgesRanged, ranged, edges-law, edges-some}
-use Rattle.text.specs.Entries.{startsWith}
+use Rattle.scan.specs.Ways.{edgesOf, edgesCut, edgesIn, edgesRanged, edgesKey, ranged, edges-law, edges-some}
+use Rattle.lines.specs.Opens.{place-within, key-there, key-other}
+use Rattle.lines.specs.Reads.{openedOf}
+use Rattle.lines.specs.declared.Opened.{Opened}
+use Rattle.text.specs.Refusals.{placeOf}
+use Rattle.text.specs.declared.Cursor.{Cursor}
 use Rattle.text.specs.declared.Fault.the-variants.{Form}
+use Rattle.text.specs.declared.Refusal.the-variants.{Line as OnLine}
 use Rattle.edges.specs.Line.{judgedLine, verdictBy, EntriesRead, LineRead}
 use Rattle.edges.specs.Reading.{Reading}
 use Rattle.edges.specs.declared.EdgesRead.{EdgesRead}
-use Rattle.edges.specs.declared.EdgesRead.the-variants.{Line, Bad}
+use Rattle.edges.specs.declared.EdgesRead.the-variants.{Line, Refused}
 use Rattle.edges.specs.declared.Judged.the-variants.{Fine}
 use Rattle.edges.proofs.Loop.{shown-start, read-end}
 
@@ -41,18 +43,18 @@ module _ (W H : ℕ) (ps : List Pin) where
 
   ranged-then : (p : Place) → edgesLine W H ps p ≡ next (edgesRanged W H p) tested
   unfolding edgesLine edgesRanged
-  ranged-then p = go (line "edges" p)
+  ranged-then p = go (line 2 "edges" p)
     where
       test : (ts : List Triple) (q : Place) (b : Bool) → next (need 3 b q) (λ u. tested ts) ≡ next (next (need 3 b q) (λ u. give ts)) tested
       test ts q true = refl
       test ts q false = refl
 
       read : (o : Option (List Triple)) (q : Place)
-          → next (form o q) (λ ts. _>>_ (need 3 (all (edgeInside W H) ts)) (tested ts)) ≡ next (next (form o q) (λ ts. _>>_ (need 3 (all (edgeInside W H) ts)) (give ts))) tested
+          → next (form 2 o q) (λ ts. _>>_ (need 3 (all (edgeInside W H) ts)) (tested ts)) ≡ next (next (form 2 o q) (λ ts. _>>_ (need 3 (all (edgeInside W H) ts)) (give ts))) tested
       read none q = refl
       read (some ts) q = test ts q (all (edgeInside W H) ts)
 
-      go : (r : Result (List ℕ)) → next r (λ v. _>>=_ (form (edgeEntries v)) (λ ts. _>>_ (need 3 (all (edgeInside W H) ts)) (tested ts))) ≡ next (next r (edgesIn W H)) tested
+      go : (r : Result (List ℕ)) → next r (λ v. _>>=_ (form 2 (edgeEntries v)) (λ ts. _>>_ (need 3 (all (edgeInside W H) ts)) (tested ts))) ≡ next (next r (edgesIn W H)) tested
       go (refused n l) = refl
       go (found v q) = read (edgeEntries v) q
 
@@ -78,44 +80,56 @@ module _ (W H : ℕ) (ps : List Pin) where
       go true = tests (twice eqb edges) (ring W H edges) (joined W H ps edges)
       go false = refl
 
-  module _ (s : List ℕ) (at n : ℕ) where
-    line-no-key : startsWith (bytes "edges=") (drop at s) ≡ false → edgesLine W H ps (record { line = n; rest = drop at s }) ≡ refused 2 (n + 1)
-    line-no-key e = ranged-then _ ∙ rw (edges-law W H n (drop at s), behind-is (bytes "edges=") (drop at s), e, add-one)
+  -- the line that was opened at c
+  module _ (s : List ℕ) (c : Cursor) (o : Opened) (e : o ≡ openedOf s c (bytes "edges=")) where
+    reads : edgesLine W H ps (placeOf s c) ≡ next (edgesKey W H (suc (c .line)) (behind (bytes "edges=") (drop (c .at) s))) tested
+    reads = ranged-then _ ∙ ap (λ (r : Result (List Triple)). next r tested) (edges-law W H (c .line) (drop (c .at) s))
 
-    line-key : startsWith (bytes "edges=") (drop at s) ≡ true
-        → edgesLine W H ps (record { line = n; rest = drop at s }) ≡ judgedLine W H ps (n + 1) (edgesCut (cutLine (drop (at + 6) s)))
-    line-key e =
-        ranged-then _
-        ∙ rw (edges-law W H n (drop at s), behind-is (bytes "edges=") (drop at s), e, drop-drop 6 at s, add-one)
-        (judged-then (suc n) (edgesCut (cutLine (drop (at + 6) s))))
+    line-other : o .there ≡ false → edgesLine W H ps (placeOf s c) ≡ refused 2 (o .place .line)
+    line-other t = reads ∙ key-other s c (bytes "edges=") o e (λ n u. next (edgesKey W H n u) tested) t
 
-module _ (g : Shape) (n : ℕ) (s : List ℕ) (at : ℕ) (ps : List Pin) (w₀ w : List ℕ) where
-  pub read-no-key : startsWith (bytes "edges=") (drop at s) ≡ false → LineRead g n s at ps w₀ w (Bad Form)
-  read-no-key e = λ l. line-no-key (g .w) (g .h) ps s at l e
+    line-there : o .there ≡ true → edgesLine W H ps (placeOf s c) ≡ judgedLine W H ps (o .place .line) (edgesCut (cutLine (drop (o .place .at) s)))
+    line-there t = reads ∙ key-there s c (bytes "edges=") o e (λ n u. next (edgesKey W H n u) tested) t ∙ judged-then (o .place .line) (edgesCut (cutLine (drop (o .place .at) s)))
 
-  module _ (key : startsWith (bytes "edges=") (drop at s) ≡ true) where
-    line-read : (r : EdgesRead) → EntriesRead g n s ps w₀ w (edgesCut (cutLine (drop (at + 6) s))) r → LineRead g n s at ps w₀ w r
-    line-read (Bad f) k = λ l. line-key (g .w) (g .h) ps s at l key ∙ k (l + 1)
-    line-read (Line next count) k = record {
-      line = k;
-      is = λ l.
-          line-key (g .w) (g .h) ps s at l key
-          ∙ ap (judgedLine (g .w) (g .h) ps (l + 1)) (k .text)
-          ∙ rw (k .inside, k .once, k .no-ring, k .reached);
-    }
+-- ---- the value, from c on
 
-    -- the text ends behind the key
-    pub read-short : length s ≤ at + 6 → LineRead g n s at ps w₀ w (Bad Form)
-    read-short h = line-read (Bad Form) (λ l. rw (drop-of-length-le s {i = at + 6} h))
+module _ (g : Shape) (n : ℕ) (s : List ℕ) (c : Cursor) (ps : List Pin) (w₀ w : List ℕ) where
+  -- the text ends there
+  pub list-short : length s ≤ c .at → EntriesRead g n s c ps w₀ w (edgesCut (cutLine (drop (c .at) s))) (Refused (OnLine Form (c .line)))
+  list-short h = rw (drop-of-length-le s {i = c .at} h)
 
-    -- a line without entries
-    pub read-empty : getD s (at + 6) 0 ≡ 10 → (parts : ℕ) → 1 ≤ length ps → Reading g n ps [] parts w₀ w → (r : EdgesRead) → r ≡ verdictBy Fine parts 0 (at + 6 + 1)
-        → LineRead g n s at ps w₀ w r
-    read-empty h parts some-pin reading r e =
-        line-read r
-        (rw (e, drop-byte s (at + 6) 10 h (omega arith))
-        (read-end g n s ps some-pin w₀ w [] (at + 6 + 1) (omega (arith, getD-in s (at + 6) 10 h (omega arith))) parts 0 refl Fine (shown-start g n ps w₀ parts w reading)))
+  -- a line without entries
+  pub list-empty : getD s (c .at) 0 ≡ 10 → (parts : ℕ) → 1 ≤ length ps → Reading g n ps [] parts w₀ w → (r : EdgesRead) → r ≡ verdictBy Fine parts 0 (c .at) (record { at = c .at + 1; line = c .line })
+      → EntriesRead g n s c ps w₀ w (edgesCut (cutLine (drop (c .at) s))) r
+  list-empty h parts some-pin reading r e =
+      rw (e, drop-byte s (c .at) 10 h (omega arith))
+      (read-end g n s ps some-pin w₀ w [] c (record { at = c .at + 1; line = c .line }) (record { place = omega (arith, getD-in s (c .at) 10 h (omega arith)); lines = refl }) parts 0 refl Fine
+      (shown-start g n ps w₀ parts w reading))
 
-    -- a line with entries
-    pub read-full : (getD s (at + 6) 0 ≡ 10 → ⊥) → (r : EdgesRead) → EntriesRead g n s ps w₀ w (edgesOf (drop (at + 6) s)) r → LineRead g n s at ps w₀ w r
-    read-full h r k = line-read r (rw (edges-some (drop (at + 6) s) (λ q. h (sym (head-drop s (at + 6)) ∙ q))) k)
+  -- a line with entries
+  pub list-full : (getD s (c .at) 0 ≡ 10 → ⊥) → (r : EdgesRead) → EntriesRead g n s c ps w₀ w (edgesOf (drop (c .at) s)) r → EntriesRead g n s c ps w₀ w (edgesCut (cutLine (drop (c .at) s))) r
+  list-full h r k = rw (edges-some (drop (c .at) s) (λ q. h (sym (head-drop s (c .at)) ∙ q))) k
+
+-- ---- the line
+
+module _ (g : Shape) (n : ℕ) (s : List ℕ) (c : Cursor) (o : Opened) (e : o ≡ openedOf s c (bytes "edges=")) (ps : List Pin) (w₀ w : List ℕ) where
+  pub read-other : o .there ≡ false → LineRead g n s c ps w₀ w (Refused (OnLine Form (o .place .line)))
+  read-other t = line-other (g .w) (g .h) ps s c o e t
+
+  pub read-there : c .at ≤ length s → o .there ≡ true → (r : EdgesRead) → EntriesRead g n s (o .place) ps w₀ w (edgesCut (cutLine (drop (o .place .at) s))) r → LineRead g n s c ps w₀ w r
+  read-there h t (Refused f) k = line-there (g .w) (g .h) ps s c o e t ∙ k
+  read-there h t (Line i d) k = record {
+    from-in = omega (arith, k .0, place-within s c (bytes "edges=") o e h t);
+    line = record {
+      entries = k .1 .entries;
+      text = ap (λ (m : ℕ). edgesCut (cutLine (drop m s))) (k .0) ∙ k .1 .text;
+      inside = k .1 .inside;
+      once = k .1 .once;
+      no-ring = k .1 .no-ring;
+      reached = k .1 .reached;
+      count-is = k .1 .count-is;
+      after = record { place = k .1 .after .place; lines = k .1 .after .lines ∙ ap (λ (x : Opened). x .place .line) e };
+      reading = k .1 .reading;
+    };
+    is = line-there (g .w) (g .h) ps s c o e t ∙ rw (k .1 .text, k .1 .inside, k .1 .once, k .1 .no-ring, k .1 .reached, k .1 .after .lines);
+  }

@@ -15,11 +15,15 @@ use Rattle.model.specs.Text.{cutLine}
 use Rattle.model.specs.Tree.{ring, joined}
 use Rattle.scan.specs.Lines.{Lined}
 use Rattle.scan.specs.Ways.{edgesCut}
-use Rattle.text.specs.Refusals.{faultNumber}
+use Rattle.lines.specs.Told.{After, refusedBy}
+use Rattle.text.specs.Refusals.{placeOf}
+use Rattle.text.specs.declared.Cursor.{Cursor}
 use Rattle.text.specs.declared.Fault.the-variants.{Range as OutOfRange, EdgeTwice, Ring as RingFound, Apart}
+use Rattle.text.specs.declared.Refusal.the-variants.{Line as OnLine}
 use Rattle.edges.specs.Reading.{Reading, edgesOn}
+use Rattle.edges.specs.declared.Edges.{Edges}
 use Rattle.edges.specs.declared.EdgesRead.{EdgesRead}
-use Rattle.edges.specs.declared.EdgesRead.the-variants.{Line, Bad}
+use Rattle.edges.specs.declared.EdgesRead.the-variants.{Line, Refused}
 use Rattle.edges.specs.declared.Judged.{Judged}
 use Rattle.edges.specs.declared.Judged.the-variants.{Fine, Ring, Twice, Range}
 use Rattle.edges.specs.declared.Seen.{Seen}
@@ -33,39 +37,40 @@ judgedLine W H ps l (some c) =
     (cond (twice eqb es) (refused 6 l) (cond (ring W H es) (refused 7 l) (cond (joined W H ps es) (found es (record { line = l; rest = c .1 })) (refused 8 l))))
     (refused 3 l)
 
--- the verdict on a line whose form is right
-abbrev pub verdictBy : Judged → ℕ → ℕ → ℕ → EdgesRead
-verdictBy Fine parts entries next = cond (eqb parts 1) (Line next entries) (Bad Apart)
-verdictBy Ring parts entries next = Bad RingFound
-verdictBy Twice parts entries next = Bad EdgeTwice
-verdictBy Range parts entries next = Bad OutOfRange
+-- the verdict on a line whose form is right: its entries stand from `from` on, and c is the place after it
+abbrev pub verdictBy : Judged → ℕ → ℕ → ℕ → Cursor → EdgesRead
+verdictBy Fine parts entries from c = cond (eqb parts 1) (Line (record { from = from; entries = entries }) c) (Refused (OnLine Apart (c .line)))
+verdictBy Ring parts entries from c = Refused (OnLine RingFound (c .line))
+verdictBy Twice parts entries from c = Refused (OnLine EdgeTwice (c .line))
+verdictBy Range parts entries from c = Refused (OnLine OutOfRange (c .line))
 
-abbrev pub verdictOf : Seen → ℕ → EdgesRead
-verdictOf v next = verdictBy (v .judged) (v .parts) (v .entries) next
+abbrev pub verdictOf : Seen → ℕ → Cursor → EdgesRead
+verdictOf v from c = verdictBy (v .judged) (v .parts) (v .entries) from c
 
 -- A fine line r of the text s: its entries, the place after it, and what it leaves in the working numbers.
-pub record EdgesFound (g : Shape) (n : ℕ) (s : List ℕ) (ps : List Pin) (w₀ w : List ℕ) (r : Lined) (next count : ℕ) : Type 0 where
+pub record EdgesFound (g : Shape) (n : ℕ) (s : List ℕ) (line : ℕ) (ps : List Pin) (w₀ w : List ℕ) (r : Lined) (e : Edges) (c : Cursor) : Type 0 where
   pub entries : List Triple
-  pub text : r ≡ some (entries, drop next s)
+  pub text : r ≡ some (entries, drop (c .at) s)
   pub inside : all (edgeInside (g .w) (g .h)) entries ≡ true
   pub once : twice eqb (edgesOn g entries) ≡ false
   pub no-ring : ring (g .w) (g .h) (edgesOn g entries) ≡ false
   pub reached : joined (g .w) (g .h) ps (edgesOn g entries) ≡ true
-  pub count-is : count ≡ length (edgesOn g entries)
-  pub place : next ≤ length s
+  pub count-is : e .entries ≡ length (edgesOn g entries)
+  pub after : After (length s) line c
   pub reading : Reading g n ps (edgesOn g entries) 1 w₀ w
 
--- the answer to the entries of a line
-abbrev pub EntriesRead : Shape → ℕ → List ℕ → List Pin → List ℕ → List ℕ → Lined → EdgesRead → Type 0
-EntriesRead g n s ps w₀ w r (Bad f) = (l : ℕ) → judgedLine (g .w) (g .h) ps l r ≡ refused (faultNumber f) l
-EntriesRead g n s ps w₀ w r (Line next count) = EdgesFound g n s ps w₀ w r next count
+-- the answer to the entries of a line, which stand from c on
+abbrev pub EntriesRead : Shape → ℕ → List ℕ → Cursor → List Pin → List ℕ → List ℕ → Lined → EdgesRead → Type 0
+EntriesRead g n s c ps w₀ w r (Refused f) = judgedLine (g .w) (g .h) ps (c .line) r ≡ refusedBy f
+EntriesRead g n s c ps w₀ w r (Line e d) = (e .from ≡ c .at) × EdgesFound g n s (c .line) ps w₀ w r e d
 
--- A fine `edges` line at a place of the text s.
-pub record LineFound (g : Shape) (n : ℕ) (s : List ℕ) (at : ℕ) (ps : List Pin) (w₀ w : List ℕ) (next count : ℕ) : Type 0 where
-  pub line : EdgesFound g n s ps w₀ w (edgesCut (cutLine (drop (at + 6) s))) next count
-  pub is : (l : ℕ) → edgesLine (g .w) (g .h) ps (record { line = l; rest = drop at s }) ≡ found (edgesOn g (line .entries)) (record { line = l + 1; rest = drop next s })
+-- A fine `edges` line at the place c of the text s.
+pub record LineFound (g : Shape) (n : ℕ) (s : List ℕ) (c : Cursor) (ps : List Pin) (w₀ w : List ℕ) (e : Edges) (d : Cursor) : Type 0 where
+  pub from-in : e .from ≤ length s
+  pub line : EdgesFound g n s (c .line + 1) ps w₀ w (edgesCut (cutLine (drop (e .from) s))) e d
+  pub is : edgesLine (g .w) (g .h) ps (placeOf s c) ≡ found (edgesOn g (line .entries)) (placeOf s d)
 
 -- the answer to the line at a place
-abbrev pub LineRead : Shape → ℕ → List ℕ → ℕ → List Pin → List ℕ → List ℕ → EdgesRead → Type 0
-LineRead g n s at ps w₀ w (Bad f) = (l : ℕ) → edgesLine (g .w) (g .h) ps (record { line = l; rest = drop at s }) ≡ refused (faultNumber f) (l + 1)
-LineRead g n s at ps w₀ w (Line next count) = LineFound g n s at ps w₀ w next count
+abbrev pub LineRead : Shape → ℕ → List ℕ → Cursor → List Pin → List ℕ → List ℕ → EdgesRead → Type 0
+LineRead g n s c ps w₀ w (Refused f) = edgesLine (g .w) (g .h) ps (placeOf s c) ≡ refusedBy f
+LineRead g n s c ps w₀ w (Line e d) = LineFound g n s c ps w₀ w e d

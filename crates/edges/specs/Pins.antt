@@ -17,8 +17,12 @@ use Rattle.model.specs.Job.{Pin}
 use Rattle.model.specs.Lists.{twice, bit, In}
 use Rattle.model.specs.Read.{Place, Result, refused, found, samePin, pinsLine}
 use Rattle.pins.specs.Laws.{AllInside, first-twice, first-new, still-inside, pins-others, pins-fit}
-use Rattle.pins.specs.Pins.{Marked, markPin, markPins, markedTwice, newTiles, pinsMarked, answered, mapped}
+use Rattle.lines.specs.Told.{mapped}
+use Rattle.pins.specs.Pins.{Marked, markPin, markPins, markedTwice, newTiles, pinsMarked, pinsTold}
+use Rattle.pins.specs.declared.Pins.{Pins}
 use Rattle.pins.specs.declared.PinsRead.the-variants.{Line}
+use Rattle.text.specs.Refusals.{placeOf}
+use Rattle.text.specs.declared.Cursor.{Cursor}
 use Rattle.theory.specs.congestion.Sums.{in-head, in-tail}
 use Rattle.theory.specs.links.Counted.{Counted, counted-pin}
 use Rattle.theory.specs.links.Nets.{EachPin}
@@ -53,30 +57,27 @@ pins-fit-grid g shaped p q ps e =
     )
 
 -- what the answer to a `pins` line says, where it is fine: the pins, and that the marks a are those of earlier nets, b, and theirs
-pub record PinsFound (g : Shape) (n : ℕ) (s : List ℕ) (at l : ℕ) (b a : List ℕ) (next entries tiles : ℕ) : Type 0 where
+pub record PinsFound (g : Shape) (n : ℕ) (s : List ℕ) (c : Cursor) (b a : List ℕ) (p : Pins) (d : Cursor) : Type 0 where
   pub pins : List Pin
-  pub is : pinsLine (g .w) (g .h) (g .k) (record { line = l; rest = drop at s }) ≡ found pins (record { line = l + 1; rest = drop next s })
+  pub is : pinsLine (g .w) (g .h) (g .k) (placeOf s c) ≡ found pins (placeOf s d)
   pub fit : PinsFit g pins
   pub marks : a ≡ markPins n b pins
-  pub count : entries ≡ length pins
-  pub parts : tiles ≡ newTiles n b pins
+  pub count : p .entries ≡ length pins
+  pub parts : p .tiles ≡ newTiles n b pins
 
-pub pins-found : (g : Shape) → Shaped g → (n : ℕ) (s : List ℕ) (at l : ℕ) (b a : List ℕ) (next entries tiles : ℕ)
-    → answered (l + 1) s a (Line next entries tiles) ≡ mapped (pinsMarked n b) (pinsLine (g .w) (g .h) (g .k) (record { line = l; rest = drop at s }))
-    → PinsFound g n s at l b a next entries tiles
-pins-found g shaped n s at l b a next entries tiles e = go (pinsLine (g .w) (g .h) (g .k) (record { line = l; rest = drop at s })) refl e
+pub pins-found : (g : Shape) → Shaped g → (n : ℕ) (s : List ℕ) (c : Cursor) (b a : List ℕ) (p : Pins) (d : Cursor)
+    → pinsTold s a (Line p d) ≡ mapped (pinsMarked n b) (pinsLine (g .w) (g .h) (g .k) (placeOf s c)) → PinsFound g n s c b a p d
+pins-found g shaped n s c b a p d e = go (pinsLine (g .w) (g .h) (g .k) (placeOf s c)) refl e
   where
-    go : (r : Result (List Pin)) → pinsLine (g .w) (g .h) (g .k) (record { line = l; rest = drop at s }) ≡ r
-        → found (record { marks = a; entries = entries; tiles = tiles }) (record { line = l + 1; rest = drop next s }) ≡ mapped (pinsMarked n b) r
-        → PinsFound g n s at l b a next entries tiles
+    go : (r : Result (List Pin)) → pinsLine (g .w) (g .h) (g .k) (placeOf s c) ≡ r → pinsTold s a (Line p d) ≡ mapped (pinsMarked n b) r → PinsFound g n s c b a p d
     go (refused k j) h q = absurd (let y : _≡_ {A = ℕ} 0 1 = cc in omega arith)
-    go (found ps p) h q =
-        let left : record { marks = a; entries = entries; tiles = tiles } ≡ pinsMarked n b ps = cc in
-        let place : record { line = l + 1; rest = drop next s } ≡ p = cc in
+    go (found ps t) h q =
+        let left : record { marks = a; entries = p .entries; tiles = p .tiles } ≡ pinsMarked n b ps = cc in
+        let place : placeOf s d ≡ t = cc in
         record {
           pins = ps;
           is = h ∙ ap (λ (z : Place). found ps z) (sym place);
-          fit = pins-fit-grid g shaped (record { line = l; rest = drop at s }) p ps h;
+          fit = pins-fit-grid g shaped (placeOf s c) t ps h;
           marks = ap (λ (m : Marked). m .marks) left;
           count = ap (λ (m : Marked). m .entries) left;
           parts = ap (λ (m : Marked). m .tiles) left;

@@ -1,7 +1,9 @@
 // The `edges` line of a net, judged from left to right: the form of the whole line first, then range, the same edge twice, a ring, and reach. Its edges are
 // marked by tile, their ends joined, and each is counted into the flat demand.
 use layout::Shape;
+use text::Cursor;
 use text::Fault;
+use text::Refusal;
 use ways::Ends;
 ghost use mathlib.Core.Path.{_≡_};
 ghost use mathlib.Core.Bool.{true, false};
@@ -14,7 +16,8 @@ ghost use Rattle.layout.specs.Shapes.{Shaped};
 ghost use Rattle.model.specs.Job.{Pin};
 ghost use Rattle.model.specs.Read.{Triple, edgeInside};
 ghost use Rattle.scan.specs.Pins.{triple};
-ghost use Rattle.scan.specs.Ways.{edgesOf};
+ghost use Rattle.model.specs.Text.{cutLine};
+ghost use Rattle.scan.specs.Ways.{edgesOf, edgesCut};
 ghost use Rattle.union.specs.Links.{Links, Merged};
 ghost use Rattle.ways.specs.Ends.{endsOf, endsAfter};
 ghost use Rattle.edges.specs.Reading.{tilesOf, linksOf, Reading, Few, Begun, Shown, goesOn, GoesOn, Ready};
@@ -35,10 +38,16 @@ pub struct Seen {
     pub judged: Judged,
 }
 
-// An `edges` line: the place after it and its entries; or its fault.
+// The entries of an `edges` line: where they stand, and how many they are.
+pub struct Edges {
+    pub from: usize,
+    pub entries: usize,
+}
+
+// An `edges` line that was read, and the place of the next line.
 pub enum EdgesRead {
-    Line(usize, usize),
-    Bad(Fault),
+    Line(Edges, Cursor),
+    Refused(Refusal),
 }
 
 // "both ends inside the grid"
@@ -101,7 +110,7 @@ fn add_edge(w: &mut [u32], g: Shape, stamp: u32, v: Seen, x: usize, y: usize, d:
     ensures { λ r. ⌜ r .entries ≡ v .entries + 1 ⌝ }
     ensures { λ _. ⌜ length (now (w .exit)) ≡ length (now (w .entry)) ⌝ }
 {
-    let here = pins::tile_at(g, x, y);
+    let here = layout::tile_at(g, x, y);
     let out = ways::way_on(g, here, y, d);
     let there = out.tile;
     let edge = out.edge;
@@ -173,33 +182,37 @@ fn put_edge(w: &mut [u32], g: Shape, stamp: u32, v: Seen, x: usize, y: usize, d:
     }
 }
 
-// The verdict on a line whose form is right.
-fn verdict(v: Seen, next: usize) -> EdgesRead
-    ensures { λ r. ⌜ r ≡ verdictOf v next ⌝ }
+// The verdict on a line whose form is right: its entries stand from `from` on, and c is the place after it.
+fn verdict(v: Seen, from: usize, c: Cursor) -> EdgesRead
+    ensures { λ r. ⌜ r ≡ verdictOf v from c ⌝ }
 {
     let judged = v.judged;
     match judged {
-        Judged::Range => EdgesRead::Bad(Fault::Range),
-        Judged::Twice => EdgesRead::Bad(Fault::EdgeTwice),
-        Judged::Ring => EdgesRead::Bad(Fault::Ring),
+        Judged::Range => EdgesRead::Refused(Refusal::Line(Fault::Range, c.line)),
+        Judged::Twice => EdgesRead::Refused(Refusal::Line(Fault::EdgeTwice, c.line)),
+        Judged::Ring => EdgesRead::Refused(Refusal::Line(Fault::Ring, c.line)),
         Judged::Fine => {
             if v.parts != 1 {
-                return EdgesRead::Bad(Fault::Apart);
+                return EdgesRead::Refused(Refusal::Line(Fault::Apart, c.line));
             }
-            EdgesRead::Line(next, v.entries)
+            let e = Edges {
+                from,
+                entries: v.entries,
+            };
+            EdgesRead::Line(e, c)
         }
     }
 }
 
-// The entries of an `edges` line from `at` on.
-fn edges(s: &[u8], at: usize, w: &mut [u32], g: Shape, stamp: u32, parts: usize) -> EdgesRead
+// The entries of an `edges` line, which stand from c on.
+fn entries(s: &[u8], c: Cursor, w: &mut [u32], g: Shape, stamp: u32, parts: usize) -> EdgesRead
     requires { ⌜ Shaped g ⌝ }
     requires { ⌜ (chosenAt g ≤ length (now w)) × (stamp ≤ 8192) × (length (now s) ≤ 1048576) ⌝ }
     requires { ⌜ Few g stamp (now w) × Begun g stamp parts (now w) ⌝ }
-    ensures { λ r. ⌜ ((ps : List Pin) (w₀ : List ℕ) → 1 ≤ length ps → Reading g stamp ps [] parts w₀ (now (w .entry)) → EntriesRead g stamp (now (s .entry)) ps w₀ (now (w .exit)) (edgesOf (drop at (now (s .entry)))) r) ⌝ }
+    ensures { λ r. ⌜ ((ps : List Pin) (w₀ : List ℕ) → 1 ≤ length ps → Reading g stamp ps [] parts w₀ (now (w .entry)) → EntriesRead g stamp (now (s .entry)) c ps w₀ (now (w .exit)) (edgesOf (drop (c .at) (now (s .entry)))) r) ⌝ }
     ensures { λ _. ⌜ length (now (w .exit)) ≡ length (now (w .entry)) ⌝ }
 {
-    let mut i = at;
+    let mut i = c.at;
     let mut v = Seen {
         entries: 0,
         parts,
@@ -209,46 +222,66 @@ fn edges(s: &[u8], at: usize, w: &mut [u32], g: Shape, stamp: u32, parts: usize)
         let entry = text::edge_at(s, i);
         let e = text::item_of(entry);
         if !e.good {
-            return EdgesRead::Bad(Fault::Form);
+            return EdgesRead::Refused(Refusal::Line(Fault::Form, c.line));
         }
         v = put_edge(w, g, stamp, v, e.x, e.y, e.z);
         i = e.next;
         if e.last {
-            return verdict(v, i);
+            let next = Cursor {
+                at: i,
+                line: c.line,
+            };
+            return verdict(v, c.at, next);
         }
     }
 }
 
-// The `edges` line at `at`, behind the `pins` line of the net, whose tiles lie in so many parts. After a refusal nothing is said of the working numbers
+// The same, where there may be none: then byte 10 stands at c.
+fn list(s: &[u8], c: Cursor, w: &mut [u32], g: Shape, stamp: u32, parts: usize) -> EdgesRead
+    requires { ⌜ Shaped g ⌝ }
+    requires { ⌜ (chosenAt g ≤ length (now w)) × (stamp ≤ 8192) × (length (now s) ≤ 1048576) ⌝ }
+    requires { ⌜ Few g stamp (now w) × Begun g stamp parts (now w) ⌝ }
+    ensures { λ r. ⌜ ((ps : List Pin) (w₀ : List ℕ) → 1 ≤ length ps → Reading g stamp ps [] parts w₀ (now (w .entry)) → EntriesRead g stamp (now (s .entry)) c ps w₀ (now (w .exit)) (edgesCut (cutLine (drop (c .at) (now (s .entry))))) r) ⌝ }
+    ensures { λ _. ⌜ length (now (w .exit)) ≡ length (now (w .entry)) ⌝ }
+{
+    let at = c.at;
+    if s.len() <= at {
+        return EdgesRead::Refused(Refusal::Line(Fault::Form, c.line));
+    }
+    if s[at] == 10 {
+        let v = Seen {
+            entries: 0,
+            parts,
+            judged: Judged::Fine,
+        };
+        let next = Cursor {
+            at: at + 1,
+            line: c.line,
+        };
+        return verdict(v, at, next);
+    }
+    entries(s, c, w, g, stamp, parts)
+}
+
+// The `edges` line at c, behind the `pins` line of the net, whose tiles lie in so many parts. After a refusal nothing is said of the working numbers
 // but their length.
 pub fn edges_line(
     s: &[u8],
-    at: usize,
+    c: Cursor,
     w: &mut [u32],
     g: Shape,
     stamp: u32,
     parts: usize,
 ) -> EdgesRead
     requires { ⌜ Shaped g ⌝ }
-    requires { ⌜ (chosenAt g ≤ length (now w)) × (stamp ≤ 8192) × (length (now s) ≤ 1048576) × (at ≤ length (now s)) ⌝ }
+    requires { ⌜ (chosenAt g ≤ length (now w)) × (stamp ≤ 8192) × (length (now s) ≤ 1048576) × (c .at ≤ length (now s)) × (c .line < 1048576) ⌝ }
     requires { ⌜ Few g stamp (now w) × Begun g stamp parts (now w) ⌝ }
-    ensures { λ r. ⌜ ((ps : List Pin) (w₀ : List ℕ) → 1 ≤ length ps → Reading g stamp ps [] parts w₀ (now (w .entry)) → LineRead g stamp (now (s .entry)) at ps w₀ (now (w .exit)) r) ⌝ }
+    ensures { λ r. ⌜ ((ps : List Pin) (w₀ : List ℕ) → 1 ≤ length ps → Reading g stamp ps [] parts w₀ (now (w .entry)) → LineRead g stamp (now (s .entry)) c ps w₀ (now (w .exit)) r) ⌝ }
     ensures { λ _. ⌜ length (now (w .exit)) ≡ length (now (w .entry)) ⌝ }
 {
-    if !text::key_at(s, at, b"edges=") {
-        return EdgesRead::Bad(Fault::Form);
+    let o = lines::open_line(s, c, b"edges=");
+    if !o.there {
+        return EdgesRead::Refused(Refusal::Line(Fault::Form, o.place.line));
     }
-    let from = at + 6;
-    if s.len() <= from {
-        return EdgesRead::Bad(Fault::Form);
-    }
-    if s[from] == 10 {
-        let v = Seen {
-            entries: 0,
-            parts,
-            judged: Judged::Fine,
-        };
-        return verdict(v, from + 1);
-    }
-    edges(s, from, w, g, stamp, parts)
+    list(s, o.place, w, g, stamp, parts)
 }

@@ -7,19 +7,18 @@ use lib.ListN.{length, drop}
 use Rattle.model.specs.Limits.{mostWeight, mostNets}
 use Rattle.model.specs.Job.{Job}
 use Rattle.model.specs.Read.{Result, refused, found, next, Lent, workingNeed, read}
+use Rattle.theory.specs.links.JobText.{headLines}
 use Rattle.layout.specs.Shapes.{Shaped}
 use Rattle.layout.specs.declared.Shape.{Shape}
 use Rattle.text.specs.Refusals.{placeOf}
 use Rattle.text.specs.declared.Cursor.{Cursor}
-use Rattle.lines.specs.Keyed.{keyBytes}
-use Rattle.lines.specs.Reads.{NumberRead}
 use Rattle.lines.specs.Told.{refusedBy, After}
 use Rattle.lines.specs.declared.Field.{Field}
 use Rattle.lines.specs.declared.Field.the-variants.{Value, Refused}
 use Rattle.lines.specs.declared.Listed.{Listed}
 use Rattle.lines.specs.declared.Listed.the-variants.{Next, Refused as Unlisted}
 use Rattle.head.specs.Capacities.{capacitiesOf}
-use Rattle.head.specs.Reads.{HeadJob, stackIn, headIn, restIn, read-splits}
+use Rattle.head.specs.Reads.{HeadJob, headIn, restIn, read-splits}
 use Rattle.head.specs.declared.Weights.{Weights}
 use Rattle.head.specs.declared.Head.{Head}
 use Rattle.head.specs.declared.Sizes.{Sizes}
@@ -38,14 +37,6 @@ sizesTold s (Unsized r) = refusedBy r
 abbrev pub sizesHold : ℕ → ℕ → Sizes → Type 0
 sizesHold size line (sized g c) = Shaped g × After size line c
 sizesHold size line (Unsized r) = Unit {0}
-
--- what is told of the line `layers`, wherever it was read
-pub record StackTold (w h : ℕ) (s : List ℕ) (c : Cursor) (r : Sizes) : Type 0 where
-  pub told : sizesTold s r ≡ stackIn w h (placeOf s c)
-  pub holds : sizesHold (length s) (c .line + 1) r
-
-abbrev pub StackRead : ℕ → ℕ → Field → Sizes → Type 0
-StackRead w h f r = (s : List ℕ) (c : Cursor) → NumberRead s c (keyBytes "layers") f → StackTold w h s c r
 
 pub record Small (v : Weights) : Type 0 where
   pub alpha : v .alpha ≤ mostWeight
@@ -105,7 +96,7 @@ pub record Holds (size entries : ℕ) (w x : List ℕ) (h : Head) (c : Cursor) :
   pub order : h .nets ≤ entries
   pub working : workingNeed (h .shape .w) (h .shape .h) (h .shape .k) ≤ length w
   pub place : c .at ≤ size
-  pub lines : c .line ≡ 7 + 2 * h .shape .k
+  pub lines : c .line ≡ headLines (h .shape .k)
   pub beyond : drop (h .shape .k * h .shape .e) x ≡ drop (h .shape .k * h .shape .e) w
 
 abbrev pub headHolds : ℕ → ℕ → List ℕ → List ℕ → HeadRead → Type 0

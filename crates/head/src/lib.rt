@@ -2,6 +2,7 @@
 use layout::Made;
 use layout::Shape;
 use layout::Stack;
+use lines::Column;
 use lines::Field;
 use lines::Listed;
 use text::Cursor;
@@ -15,8 +16,8 @@ ghost use Rattle.layout.specs.Shapes.{Shaped};
 ghost use Rattle.text.specs.Refusals.{placeOf};
 ghost use Rattle.lines.specs.Spread.{spread};
 ghost use Rattle.lines.specs.Told.{fieldTold, listTold, listIn, mapped};
-ghost use Rattle.head.specs.Reads.{sizesIn, weightsIn, layerIn, netsIn, bodyIn, headIn};
-ghost use Rattle.head.specs.Told.{sizesTold, sizesHold, StackRead, weightsTold, weightsHold, netsHold, capacitiesTold, beyondOf, headTold, headHolds};
+ghost use Rattle.head.specs.Reads.{stackIn, sizesIn, weightsIn, layerIn, netsIn, bodyIn, headIn};
+ghost use Rattle.head.specs.Told.{sizesTold, sizesHold, weightsTold, weightsHold, netsHold, capacitiesTold, beyondOf, headTold, headHolds};
 
 // "W = width and H = height, 1 to 64"
 const LEAST_SIDE: usize = 1;
@@ -61,12 +62,14 @@ pub enum HeadRead {
     Refused(Refusal),
 }
 
-// What the line `layers` says, after `width` and `height`.
-fn stack_of(f: Field, w: usize, h: usize) -> Sizes
+// The line `layers`, after `width` and `height`.
+fn read_stack(s: &[u8], c: Cursor, w: usize, h: usize) -> Sizes
+    requires { ⌜ (c .at ≤ length (now s)) × (c .line < 1000) ⌝ }
     requires { ⌜ (1 ≤ w) × (w ≤ 64) × (1 ≤ h) × (h ≤ 64) ⌝ }
-    ensures { λ r. ⌜ StackRead w h f r ⌝ }
+    ensures { λ r. ⌜ sizesTold (now (s .entry)) r ≡ stackIn w h (placeOf (now (s .entry)) c) ⌝ }
+    ensures { λ r. ⌜ sizesHold (length (now (s .entry))) (c .line + 1) r ⌝ }
 {
-    match f {
+    match lines::number_line(s, c, b"layers=") {
         Field::Refused(r) => Sizes::Refused(r),
         Field::Value(k, d) => match Stack::new(k) {
             Made::Outside => Sizes::Refused(Refusal::Line(Fault::Range, d.line)),
@@ -81,15 +84,11 @@ fn read_sizes(s: &[u8], c: Cursor) -> Sizes
     ensures { λ r. ⌜ sizesTold (now (s .entry)) r ≡ sizesIn (placeOf (now (s .entry)) c) ⌝ }
     ensures { λ r. ⌜ sizesHold (length (now (s .entry))) (c .line + 3) r ⌝ }
 {
-    let t = lines::three_lines(s, c, b"width=", b"height=", b"layers=");
-    let width = t.first;
-    let height = t.second;
-    let layers = t.third;
-    match lines::in_range(width, LEAST_SIDE, MOST_SIDE) {
+    match lines::ranged(s, c, b"width=", LEAST_SIDE, MOST_SIDE) {
         Field::Refused(r) => Sizes::Refused(r),
-        Field::Value(w, _) => match lines::in_range(height, LEAST_SIDE, MOST_SIDE) {
+        Field::Value(w, d) => match lines::ranged(s, d, b"height=", LEAST_SIDE, MOST_SIDE) {
             Field::Refused(r) => Sizes::Refused(r),
-            Field::Value(h, _) => stack_of(layers, w, h),
+            Field::Value(h, e) => read_stack(s, e, w, h),
         },
     }
 }
@@ -100,17 +99,13 @@ fn read_weights(s: &[u8], c: Cursor) -> Weighed
     ensures { λ r. ⌜ weightsTold (now (s .entry)) r ≡ weightsIn (placeOf (now (s .entry)) c) ⌝ }
     ensures { λ r. ⌜ weightsHold (length (now (s .entry))) (c .line + 3) r ⌝ }
 {
-    let t = lines::three_lines(s, c, b"alpha=", b"beta=", b"gamma=");
-    let first = t.first;
-    let second = t.second;
-    let third = t.third;
-    match lines::in_range(first, 0, MOST_WEIGHT) {
+    match lines::ranged(s, c, b"alpha=", 0, MOST_WEIGHT) {
         Field::Refused(r) => Weighed::Refused(r),
-        Field::Value(alpha, _) => match lines::in_range(second, 0, MOST_WEIGHT) {
+        Field::Value(alpha, d) => match lines::ranged(s, d, b"beta=", 0, MOST_WEIGHT) {
             Field::Refused(r) => Weighed::Refused(r),
-            Field::Value(beta, _) => match lines::in_range(third, 0, MOST_WEIGHT) {
+            Field::Value(beta, e) => match lines::ranged(s, e, b"gamma=", 0, MOST_WEIGHT) {
                 Field::Refused(r) => Weighed::Refused(r),
-                Field::Value(gamma, d) => Weighed::Weights(Weights { alpha, beta, gamma }, d),
+                Field::Value(gamma, f) => Weighed::Weights(Weights { alpha, beta, gamma }, f),
             },
         },
     }
@@ -142,10 +137,20 @@ fn layer_lines(s: &[u8], c: Cursor, w: &mut [u32], g: Shape, layer: usize) -> Li
     ensures { λ r. ⌜ listIn (length (now (s .entry))) (c .line + 2) r ⌝ }
     ensures { λ _. ⌜ length (now (w .exit)) ≡ length (now (w .entry)) ⌝ }
 {
-    match lines::capacity_line(s, c, b"east=", w, layer, g.k, g.east) {
+    let east = Column {
+        first: layer,
+        k: g.k,
+        count: g.east,
+    };
+    match lines::capacity_line(s, c, b"east=", w, east) {
         Listed::Refused(r) => Listed::Refused(r),
         Listed::Next(d) => {
-            lines::capacity_line(s, d, b"north=", w, layer + g.east * g.k, g.k, g.e - g.east)
+            let north = Column {
+                first: layer + g.east * g.k,
+                k: g.k,
+                count: g.e - g.east,
+            };
+            lines::capacity_line(s, d, b"north=", w, north)
         }
     }
 }

@@ -3,6 +3,8 @@
 use mathlib.Core.Bool.{Bool, true, false, cond}
 use mathlib.Core.Path.{_≡_}
 use Prim.Native.Nat.{ℕ, zero, suc, _+_, _-_, _*_, _/_, _≤_, _<_}
+use native.Mathlib.Nat.{mul-le-mul-right, suc-mul, mul-comm}
+use native.Mathlib.Omega.{arith}
 use lib.Dec.{ltb}
 use Rattle.model.specs.Grid.{tiles, eastCount, northCount, gridEdges}
 use Rattle.model.specs.Limits.{leastSide, mostSide, leastLayers, mostLayers}
@@ -49,3 +51,11 @@ pub record WayRoom (g : Shape) (t d : ℕ) : Type 0 where
   pub tile : t < g .t
   pub west : d ≡ 2 → 1 + t / g .w ≤ t
   pub south : d ≡ 3 → g .w ≤ t
+
+-- the number of a tile inside the grid
+pub tile-below : (W H x y : ℕ) → x < W → y < H → y * W + x < W * H
+tile-below W H x y h k =
+    let p : suc y * W ≤ H * W = mul-le-mul-right W k in
+    let q : suc y * W ≡ y * W + W = suc-mul y W in
+    let r : W * H ≡ H * W = mul-comm W H in
+    omega arith

@@ -71,6 +71,15 @@ pub fn need(g: Shape) -> usize
     2 * g.k * g.e + 2 * g.e + 32 * g.t
 }
 
+// The number of a tile inside the grid.
+pub fn tile_at(g: Shape, x: usize, y: usize) -> usize
+    requires { ⌜ Shaped g ⌝ }
+    requires { ⌜ (x < g .w) × (y < g .h) ⌝ }
+    ensures { λ r. ⌜ (r ≡ y * g .w + x) × (r < g .t) ⌝ }
+{
+    y * g.w + x
+}
+
 // A way out of a tile: the tile that it leads to, and the number of its edge.
 pub struct Way {
     pub tile: usize,

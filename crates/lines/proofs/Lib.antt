@@ -4,5 +4,4 @@ mod Places
 mod Keys
 pub mod Ranges
 mod Steps
-mod Follows
 mod Going

@@ -66,20 +66,20 @@ abbrev pub numeralTold : ℕ → List ℕ → Numeral → Result ℕ
 numeralTold n s Malformed = refused 2 n
 numeralTold n s (Value v m) = found v (record { line = n; rest = drop m s })
 
-pub number-value : (n : ℕ) (s : List ℕ) (at : ℕ) → next (valueIn n (cutLine (drop at s)) []) (λ v. form (number v)) ≡ numeralTold n s (endedAt s at 10)
+pub number-value : (n : ℕ) (s : List ℕ) (at : ℕ) → next (valueIn 2 n (cutLine (drop at s)) []) (λ v. form 2 (number v)) ≡ numeralTold n s (endedAt s at 10)
 number-value n s at =
     number-run n (drop at s) ∙ rw (after s at, head-at s (past s at), tail-at s (past s at), ended-by s at 10) (go (number (run s at)) (past s at))
   where
-    go : (o : Option ℕ) (m : ℕ) → cond (eqb (getD s m 0) 10) (form o (record { line = n; rest = drop (m + 1) s })) (refused 2 n)
+    go : (o : Option ℕ) (m : ℕ) → cond (eqb (getD s m 0) 10) (form 2 o (record { line = n; rest = drop (m + 1) s })) (refused 2 n)
         ≡ numeralTold n s (onNumber (numbered m o) (λ v k. cond (eqb (getD s k 0) 10) (Value v (k + 1)) Malformed) Malformed)
     go none m = test (eqb (getD s m 0) 10)
       where
-        test : (q : Bool) → cond q (form {A = ℕ} none (record { line = n; rest = drop (m + 1) s })) (refused 2 n) ≡ refused 2 n
+        test : (q : Bool) → cond q (form {A = ℕ} 2 none (record { line = n; rest = drop (m + 1) s })) (refused 2 n) ≡ refused 2 n
         test true = refl
         test false = refl
     go (some v) m = test (eqb (getD s m 0) 10)
       where
-        test : (q : Bool) → cond q (form (some v) (record { line = n; rest = drop (m + 1) s })) (refused 2 n) ≡ numeralTold n s (cond q (Value v (m + 1)) Malformed)
+        test : (q : Bool) → cond q (form 2 (some v) (record { line = n; rest = drop (m + 1) s })) (refused 2 n) ≡ numeralTold n s (cond q (Value v (m + 1)) Malformed)
         test true = refl
         test false = refl
 
@@ -220,21 +220,21 @@ list-line (suc n) s at = some-line n (cutLine (drop at s)) ∙ sym (list-value s
 -- what is done with the value of a line of capacities
 abbrev pub capacitiesIn : ℕ → List ℕ → Reading (List ℕ)
 capacitiesIn size v = do
-  cs ← form (numbers v)
+  cs ← form 2 (numbers v)
   need 2 (eqb (length cs) size)
   need 3 (all (λ c. leb c mostCapacity) cs)
   give cs
 
 pub capacities-value : (k n size : ℕ) (w : List ℕ) (to : ℕ) (s : List ℕ) (at : ℕ) →
-    mapped (spread k w to) (next (valueIn n (cutLine (drop at s)) []) (capacitiesIn size)) ≡ finish k n true w to (listLine size s at)
+    mapped (spread k w to) (next (valueIn 2 n (cutLine (drop at s)) []) (capacitiesIn size)) ≡ finish k n true w to (listLine size s at)
 capacities-value k n size w to s at = rw (sym (list-line size s at)) (cut (cutLine (drop at s)))
   where
-    cut : (c : Cut) → mapped (spread k w to) (next (valueIn n c []) (capacitiesIn size)) ≡ finish k n true w to (sizedBy size c)
+    cut : (c : Cut) → mapped (spread k w to) (next (valueIn 2 n c []) (capacitiesIn size)) ≡ finish k n true w to (sizedBy size c)
     cut none = refl
     cut (some c) = read (numbers (c .0)) (c .1)
       where
         read : (o : Option (List ℕ)) (r : List ℕ) →
-            mapped (spread k w to) (next (form o (record { line = n; rest = r })) (λ cs. _>>_ (need 2 (eqb (length cs) size)) (_>>_ (need 3 (all (λ c. leb c mostCapacity) cs)) (give cs))))
+            mapped (spread k w to) (next (form 2 o (record { line = n; rest = r })) (λ cs. _>>_ (need 2 (eqb (length cs) size)) (_>>_ (need 3 (all (λ c. leb c mostCapacity) cs)) (give cs))))
             ≡ finish k n true w to (sized size (withRest o r))
         read none r = refl
         read (some vs) r = test (eqb (length vs) size) (all (λ c. leb c mostCapacity) vs) refl

@@ -4,14 +4,12 @@ use mathlib.Core.Path.{_≡_, refl, sym}
 use mathlib.Core.Bool.{Bool, true, false, cond, _&&_}
 use mathlib.Core.List.{List}
 use Prim.Native.Nat.{ℕ, _≤_, _<_}
-use native.Mathlib.Omega.{arith}
 use lib.Dec.{leb}
 use borrow.Author.Tests.{le-leb, lt-leb}
 use Rattle.model.specs.Read.{Place, Result, refused, found, next, _>>=_, _>>_, need, give}
 use Rattle.text.specs.Refusals.{placeOf}
 use Rattle.text.specs.declared.Cursor.{Cursor}
 use Rattle.text.specs.declared.Fault.the-variants.{Range}
-use Rattle.text.specs.declared.Refusal.{Refusal}
 use Rattle.text.specs.declared.Refusal.the-variants.{Line}
 use Rattle.lines.specs.Keyed.{numberLineBy, rangedBy}
 use Rattle.lines.specs.Reads.{inRange}
@@ -65,15 +63,3 @@ range-within low high size line (Value v c) h = go (leb low v && leb v high)
     go true = h
     go false = tt
 range-within low high size line (Refused r) h = tt
-
-not-value : (r : Refusal) (v : ℕ) (c : Cursor) → Refused r ≡ Value v c → ⊥
-not-value r v c e = let z : _≡_ {A = ℕ} 0 1 = cc in omega arith
-
--- a number in its range is the one that was read
-pub range-same : (low high : ℕ) (f : Field) (v : ℕ) (c : Cursor) → inRange low high f ≡ Value v c → f ≡ Value v c
-range-same low high (Value w d) v c e = go (leb low w && leb w high) e
-  where
-    go : (b : Bool) → cond b (Value w d) (Refused (Line Range (d .line))) ≡ Value v c → Value w d ≡ Value v c
-    go true e = e
-    go false e = absurd (not-value _ v c e)
-range-same low high (Refused r) v c e = absurd (not-value r v c e)

@@ -63,23 +63,23 @@ split-run (b ∷ t) v = go (isDigit b) refl (split-run t v)
 
 -- the number, where byte 10 stands behind it
 abbrev pub oneNumber : ℕ → Option ℕ → List ℕ → Result ℕ
-oneNumber n o u = cond (eqb (getD u 0 0) 10) (form o (record { line = n; rest = drop 1 u })) (refused 2 n)
+oneNumber n o u = cond (eqb (getD u 0 0) 10) (form 2 o (record { line = n; rest = drop 1 u })) (refused 2 n)
 
-pub number-run : (n : ℕ) (t : List ℕ) → next (valueIn n (cutLine t) []) (λ v. form (number v)) ≡ oneNumber n (number (digitRun t)) (undigits t)
+pub number-run : (n : ℕ) (t : List ℕ) → next (valueIn 2 n (cutLine t) []) (λ v. form 2 (number v)) ≡ oneNumber n (number (digitRun t)) (undigits t)
 number-run n t = rw (cut-run t) (go (undigits t) (undigits-no t))
   where
     ds : List ℕ
     ds = digitRun t
 
-    other : (c : ℕ) → isDigit c ≡ false → (k : Cut) → next (valueIn n (cutBehind (digitRun t) (cutStep c k)) []) (λ v. form (number v)) ≡ refused 2 n
+    other : (c : ℕ) → isDigit c ≡ false → (k : Cut) → next (valueIn 2 n (cutBehind (digitRun t) (cutStep c k)) []) (λ v. form 2 (number v)) ≡ refused 2 n
     other c e none = refl
     other c e (some k) = rw (no-number (digitRun t) c (k .0) e)
 
-    go : (u : List ℕ) → NoDigit u → next (valueIn n (cutBehind (digitRun t) (cutLine u)) []) (λ v. form (number v)) ≡ oneNumber n (number (digitRun t)) u
+    go : (u : List ℕ) → NoDigit u → next (valueIn 2 n (cutBehind (digitRun t) (cutLine u)) []) (λ v. form 2 (number v)) ≡ oneNumber n (number (digitRun t)) u
     go [] h = refl
     go (c ∷ u) h = test (ℕ-discrete c 10)
       where
-        test : Dec (c ≡ 10) → next (valueIn n (cutBehind (digitRun t) (cutLine (c ∷ u))) []) (λ v. form (number v)) ≡ oneNumber n (number (digitRun t)) (c ∷ u)
+        test : Dec (c ≡ 10) → next (valueIn 2 n (cutBehind (digitRun t) (cutLine (c ∷ u))) []) (λ v. form 2 (number v)) ≡ oneNumber n (number (digitRun t)) (c ∷ u)
         test (yes e) = rw (eq-eqb c 10 e, append-nil (digitRun t))
         test (no m) = rw (ne-eqb c 10 m) (other c h (cutLine u))
 

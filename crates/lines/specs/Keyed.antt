@@ -21,12 +21,12 @@ abbrev pub keyBytes : String → List ℕ
 keyBytes key = bytes key ++ (61 ∷ [])
 
 abbrev pub lineBy : List ℕ → Reading (List ℕ)
-lineBy key p = valueIn (suc (p .line)) (cutLine (p .rest)) key
+lineBy key p = valueIn 2 (suc (p .line)) (cutLine (p .rest)) key
 
 unfoldable pub numberLineBy : List ℕ → Reading ℕ
 numberLineBy key = do
   v ← lineBy key
-  form (number v)
+  form 2 (number v)
 
 unfoldable pub rangedBy : List ℕ → ℕ → ℕ → Reading ℕ
 rangedBy key low high = do
@@ -37,7 +37,7 @@ rangedBy key low high = do
 unfoldable pub capacityLineBy : List ℕ → ℕ → Reading (List ℕ)
 capacityLineBy key size = do
   v ← lineBy key
-  cs ← form (numbers v)
+  cs ← form 2 (numbers v)
   need 2 (eqb (length cs) size)
   need 3 (all (λ c. leb c mostCapacity) cs)
   give cs

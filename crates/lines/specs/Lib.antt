@@ -4,3 +4,4 @@ pub mod Spread
 pub mod Told
 pub mod Ran
 pub mod Reads
+pub mod Opens

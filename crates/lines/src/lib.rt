@@ -5,7 +5,7 @@ use text::Numeral;
 use text::Refusal;
 ghost use mathlib.Core.Path.{_≡_};
 ghost use mathlib.Core.Bool.{true, _&&_};
-ghost use Prim.Native.Nat.{_+_, _-_, _<_, _≤_};
+ghost use Prim.Native.Nat.{_+_, _-_, _<_, _≤_, _^_};
 ghost use lib.Dec.{leb};
 ghost use lib.ListN.{length};
 ghost use Rattle.model.specs.Limits.{mostCapacity};
@@ -14,7 +14,7 @@ ghost use Rattle.text.specs.Refusals.{placeOf};
 ghost use Rattle.lines.specs.Keyed.{oneLine, numberLineBy, rangedBy, capacityLineBy};
 ghost use Rattle.lines.specs.Spread.{kept, spread, Room};
 ghost use Rattle.lines.specs.Told.{fieldTold, fieldIn, listTold, listIn, answerOf, mapped};
-ghost use Rattle.lines.specs.Reads.{inRange, Ready, NumberRead, behindOf, ThreeReady, ThreeRead};
+ghost use Rattle.lines.specs.Reads.{keyed, behindOf, openedOf, inRange};
 ghost use Rattle.lines.specs.Entries.{endedAt, listAt, listLine, finish};
 ghost use Rattle.lines.specs.Ran.{Stands, Ran};
 
@@ -32,6 +32,82 @@ pub enum Listed {
     Next(Cursor),
     Refused(Refusal),
 }
+
+// ---- the reader
+
+// A reader: the job text, and the place in it of the line that comes next.
+pub struct Reader<'a> {
+    pub text: &'a [u8],
+    pub place: Cursor,
+}
+
+// The next line of the text: whether it has the key, and the place behind the key, one line further.
+pub struct Opened {
+    pub there: bool,
+    pub place: Cursor,
+}
+
+// Whether the key stands at a place of the text: what the reader leaves to a function on slice and place.
+fn key_at<'a>(s: &'a [u8], c: Cursor, key: &'a [u8]) -> bool
+    requires { ⌜ c .at ≤ length (now s) ⌝ }
+    ensures { λ r. ⌜ r ≡ keyed (now (s .entry)) c (now (key .entry)) ⌝ }
+{
+    text::key_at(s, c.at, key)
+}
+
+// The place n bytes further, on the next line.
+fn behind(c: Cursor, n: usize) -> Cursor
+    requires { ⌜ (c .at + n < 2 ^ 64) × (c .line < 1048576) ⌝ }
+    ensures { λ r. ⌜ r ≡ behindOf c n ⌝ }
+{
+    Cursor {
+        at: c.at + n,
+        line: c.line + 1,
+    }
+}
+
+// A reader of the text, at a place.
+pub fn reader_at<'a>(text: &'a [u8], place: Cursor) -> Reader<'a>
+    ensures { λ r. ⌜ (r .text ≡ text .entry) × (r .place ≡ place) ⌝ }
+{
+    Reader { text, place }
+}
+
+// Whether the line at the reader's place has the key.
+pub fn key_here<'a>(r: Reader<'a>, key: &'a [u8]) -> bool
+    requires { ⌜ r .place .at ≤ length (now (r .text)) ⌝ }
+    ensures { λ b. ⌜ b ≡ keyed (now (r .entry .text)) (r .entry .place) (now (key .entry)) ⌝ }
+{
+    key_at(r.text, r.place, key)
+}
+
+// The reader moved forward, n bytes and one line.
+pub fn moved<'a>(r: Reader<'a>, n: usize) -> Reader<'a>
+    requires { ⌜ (r .place .at + n < 2 ^ 64) × (r .place .line < 1048576) ⌝ }
+    ensures { λ m. ⌜ (m .text ≡ r .entry .text) × (m .place ≡ behindOf (r .entry .place) n) ⌝ }
+{
+    Reader {
+        text: r.text,
+        place: behind(r.place, n),
+    }
+}
+
+// The line at a place of the text. Every line of the text is opened here, whatever follows its key; where the key is not there, whoever asks refuses the
+// line or goes on without it.
+pub fn open_line<'a>(s: &'a [u8], c: Cursor, key: &'a [u8]) -> Opened
+    requires { ⌜ (c .at ≤ length (now s)) × (c .line < 1048576) ⌝ }
+    ensures { λ r. ⌜ r ≡ openedOf (now (s .entry)) c (now (key .entry)) ⌝ }
+{
+    let r = reader_at(s, c);
+    let there = key_here(r, key);
+    let r = moved(r, key.len());
+    Opened {
+        there,
+        place: r.place,
+    }
+}
+
+// ---- lines with one number
 
 // The number at `at`, the byte `end` behind it, and the place after that.
 fn ended(s: &[u8], at: usize, end: u8) -> Numeral
@@ -54,17 +130,17 @@ fn ended(s: &[u8], at: usize, end: u8) -> Numeral
 }
 
 // A line with one number.
-pub fn number_line(s: &[u8], c: Cursor, key: &[u8]) -> Field
+pub fn number_line<'a>(s: &'a [u8], c: Cursor, key: &'a [u8]) -> Field
     requires { ⌜ (c .at ≤ length (now s)) × (c .line < 1048576) × (oneLine (now key) ≡ true) ⌝ }
     ensures { λ r. ⌜ fieldTold (now (s .entry)) r ≡ numberLineBy (now (key .entry)) (placeOf (now (s .entry)) c) ⌝ }
     ensures { λ r. ⌜ fieldIn (length (now (s .entry))) (c .line + 1) r ⌝ }
 {
-    let line = c.line + 1;
-    if !text::key_at(s, c.at, key) {
+    let o = open_line(s, c, key);
+    let line = o.place.line;
+    if !o.there {
         return Field::Refused(Refusal::Line(Fault::Form, line));
     }
-    let from = c.at + key.len();
-    match ended(s, from, 10) {
+    match ended(s, o.place.at, 10) {
         Numeral::Malformed => Field::Refused(Refusal::Line(Fault::Form, line)),
         Numeral::Value(v, next) => Field::Value(v, Cursor { at: next, line }),
     }
@@ -89,95 +165,12 @@ pub fn in_range(f: Field, low: usize, high: usize) -> Field
 }
 
 // A line with one number from `low` to `high`.
-pub fn ranged(s: &[u8], c: Cursor, key: &[u8], low: usize, high: usize) -> Field
+pub fn ranged<'a>(s: &'a [u8], c: Cursor, key: &'a [u8], low: usize, high: usize) -> Field
     requires { ⌜ (c .at ≤ length (now s)) × (c .line < 1048576) × (oneLine (now key) ≡ true) ⌝ }
     ensures { λ r. ⌜ fieldTold (now (s .entry)) r ≡ rangedBy (now (key .entry)) low high (placeOf (now (s .entry)) c) ⌝ }
     ensures { λ r. ⌜ fieldIn (length (now (s .entry))) (c .line + 1) r ⌝ }
 {
     in_range(number_line(s, c, key), low, high)
-}
-
-// ---- the reader: lines with one number, one after the other
-
-// A reader: the job text, and the place in it of the line that comes next.
-pub struct Reader<'a> {
-    pub text: &'a [u8],
-    pub place: Cursor,
-}
-
-// What three lines say that follow each other.
-pub struct Three {
-    pub first: Field,
-    pub second: Field,
-    pub third: Field,
-}
-
-// The place behind a line that was read at c; a refused line leaves it as it is.
-fn behind(f: Field, c: Cursor) -> Cursor
-    ensures { λ r. ⌜ r ≡ behindOf f c ⌝ }
-{
-    match f {
-        Field::Value(_, next) => next,
-        Field::Refused(_) => c,
-    }
-}
-
-// The line at a place of the text: what the reader leaves to a function on slice and place.
-fn number_at<'a>(s: &'a [u8], c: Cursor, key: &'a [u8]) -> Field
-    requires { ⌜ Ready (now s) c (now key) ⌝ }
-    ensures { λ r. ⌜ NumberRead (now (s .entry)) c (now (key .entry)) r ⌝ }
-{
-    number_line(s, c, key)
-}
-
-// A reader of the text, at a place.
-pub fn reader_at<'a>(text: &'a [u8], place: Cursor) -> Reader<'a>
-    ensures { λ r. ⌜ (r .text ≡ text .entry) × (r .place ≡ place) ⌝ }
-{
-    Reader { text, place }
-}
-
-// The line at the reader's place.
-pub fn number_here<'a>(r: Reader<'a>, key: &'a [u8]) -> Field
-    requires { ⌜ Ready (now (r .text)) (r .place) (now key) ⌝ }
-    ensures { λ f. ⌜ NumberRead (now (r .entry .text)) (r .entry .place) (now (key .entry)) f ⌝ }
-{
-    number_at(r.text, r.place, key)
-}
-
-// The reader moved forward, behind the line that it read.
-pub fn moved<'a>(r: Reader<'a>, f: Field) -> Reader<'a>
-    ensures { λ m. ⌜ (m .text ≡ r .entry .text) × (m .place ≡ behindOf f (r .entry .place)) ⌝ }
-{
-    Reader {
-        text: r.text,
-        place: behind(f, r.place),
-    }
-}
-
-// Three lines with one number each, by one reader that moves forward from line to line. At a refused line it stays; what is read there again
-// counts for nothing, as whoever asks goes by the first refusal.
-pub fn three_lines<'a>(
-    s: &'a [u8],
-    c: Cursor,
-    first: &'a [u8],
-    second: &'a [u8],
-    third: &'a [u8],
-) -> Three
-    requires { ⌜ ThreeReady (now s) c (now first) (now second) (now third) ⌝ }
-    ensures { λ r. ⌜ ThreeRead (now (s .entry)) c (now (first .entry)) (now (second .entry)) (now (third .entry)) r ⌝ }
-{
-    let r = reader_at(s, c);
-    let a = number_here(r, first);
-    let r = moved(r, a);
-    let b = number_here(r, second);
-    let r = moved(r, b);
-    let d = number_here(r, third);
-    Three {
-        first: a,
-        second: b,
-        third: d,
-    }
 }
 
 // ---- capacities
@@ -254,6 +247,13 @@ fn short_run(s: &[u8], w: &mut [u32], k: usize, from: Run) -> Run
     }
 }
 
+// Where the capacities of a line are stored: the first at `first`, and each other `k` places after the one before; how many they are.
+pub struct Column {
+    pub first: usize,
+    pub k: usize,
+    pub count: usize,
+}
+
 // The answer for a list whose form is right, read up to `at`: whether all its capacities are in their range.
 fn answer(at: usize, line: usize, inside: bool) -> Listed
     ensures { λ r. ⌜ r ≡ answerOf at line inside ⌝ }
@@ -264,71 +264,57 @@ fn answer(at: usize, line: usize, inside: bool) -> Listed
     Listed::Refused(Refusal::Line(Fault::Range, line))
 }
 
-// `count` capacities from `at` on, on line `line`: the first is stored at `first`, and each other `k` places after the one before.
-// Behind the last is byte 10, and behind each other a comma. Those of one or two digits are read in runs.
-fn entries(
-    s: &[u8],
-    at: usize,
-    line: usize,
-    w: &mut [u32],
-    first: usize,
-    k: usize,
-    count: usize,
-) -> Listed
-    requires { ⌜ at ≤ length (now s) ⌝ }
-    requires { ⌜ Room k first count (length (now w)) ⌝ }
-    ensures { λ r. ⌜ listTold (now (s .entry)) (now (w .exit)) r ≡ finish k line true (now (w .entry)) first (listAt count (now (s .entry)) at) ⌝ }
-    ensures { λ r. ⌜ listIn (length (now (s .entry))) line r ⌝ }
+// The capacities of a column, which stand from c on. Behind the last is byte 10, and behind each other a comma. Those of one or two digits are read in
+// runs.
+fn entries(s: &[u8], c: Cursor, w: &mut [u32], to: Column) -> Listed
+    requires { ⌜ c .at ≤ length (now s) ⌝ }
+    requires { ⌜ Room (to .k) (to .first) (to .count) (length (now w)) ⌝ }
+    ensures { λ r. ⌜ listTold (now (s .entry)) (now (w .exit)) r ≡ finish (to .k) (c .line) true (now (w .entry)) (to .first) (listAt (to .count) (now (s .entry)) (c .at)) ⌝ }
+    ensures { λ r. ⌜ listIn (length (now (s .entry))) (c .line) r ⌝ }
     ensures { λ _. ⌜ length (now (w .exit)) ≡ length (now (w .entry)) ⌝ }
 {
-    if count == 0 {
-        return answer(at, line, true);
+    if to.count == 0 {
+        return answer(c.at, c.line, true);
     }
     let start = Run {
-        at,
-        to: first,
-        left: count - 1,
+        at: c.at,
+        to: to.first,
+        left: to.count - 1,
         inside: true,
     };
-    let mut r = short_run(s, w, k, start);
+    let mut r = short_run(s, w, to.k, start);
     while 0 < r.left {
         let Numeral::Value(v, next) = ended(s, r.at, 44) else {
-            return Listed::Refused(Refusal::Line(Fault::Form, line));
+            return Listed::Refused(Refusal::Line(Fault::Form, c.line));
         };
         let more = Run {
             at: next,
-            to: r.to + k,
+            to: r.to + to.k,
             left: r.left - 1,
             inside: put(w, r.to, v, r.inside),
         };
-        r = short_run(s, w, k, more);
+        r = short_run(s, w, to.k, more);
     }
     let Numeral::Value(v, next) = ended(s, r.at, 10) else {
-        return Listed::Refused(Refusal::Line(Fault::Form, line));
+        return Listed::Refused(Refusal::Line(Fault::Form, c.line));
     };
     let all = put(w, r.to, v, r.inside);
-    answer(next, line, all)
+    answer(next, c.line, all)
 }
 
-// The same from `at` on up to the line's end, where `count` may be 0: then the value is empty.
-fn list(
-    s: &[u8],
-    at: usize,
-    line: usize,
-    w: &mut [u32],
-    first: usize,
-    k: usize,
-    count: usize,
-) -> Listed
-    requires { ⌜ at ≤ length (now s) ⌝ }
-    requires { ⌜ Room k first count (length (now w)) ⌝ }
-    ensures { λ r. ⌜ listTold (now (s .entry)) (now (w .exit)) r ≡ finish k line true (now (w .entry)) first (listLine count (now (s .entry)) at) ⌝ }
-    ensures { λ r. ⌜ listIn (length (now (s .entry))) line r ⌝ }
+// The same up to the line's end, where the column may be empty: then the value is empty.
+fn list(s: &[u8], c: Cursor, w: &mut [u32], to: Column) -> Listed
+    requires { ⌜ c .at ≤ length (now s) ⌝ }
+    requires { ⌜ Room (to .k) (to .first) (to .count) (length (now w)) ⌝ }
+    ensures { λ r. ⌜ listTold (now (s .entry)) (now (w .exit)) r ≡ finish (to .k) (c .line) true (now (w .entry)) (to .first) (listLine (to .count) (now (s .entry)) (c .at)) ⌝ }
+    ensures { λ r. ⌜ listIn (length (now (s .entry))) (c .line) r ⌝ }
     ensures { λ _. ⌜ length (now (w .exit)) ≡ length (now (w .entry)) ⌝ }
 {
-    if 0 < count {
-        return entries(s, at, line, w, first, k, count);
+    if 0 < to.count {
+        return entries(s, c, w, to);
     }
+    let at = c.at;
+    let line = c.line;
     if s.len() <= at {
         return Listed::Refused(Refusal::Line(Fault::Form, line));
     }
@@ -338,26 +324,17 @@ fn list(
     Listed::Refused(Refusal::Line(Fault::Form, line))
 }
 
-// A line of `count` capacities: the first is stored at `first`, and each other `k` places after the one before.
-pub fn capacity_line(
-    s: &[u8],
-    c: Cursor,
-    key: &[u8],
-    w: &mut [u32],
-    first: usize,
-    k: usize,
-    count: usize,
-) -> Listed
+// A line of capacities.
+pub fn capacity_line<'a>(s: &'a [u8], c: Cursor, key: &'a [u8], w: &mut [u32], to: Column) -> Listed
     requires { ⌜ (c .at ≤ length (now s)) × (c .line < 1048576) × (oneLine (now key) ≡ true) ⌝ }
-    requires { ⌜ Room k first count (length (now w)) ⌝ }
-    ensures { λ r. ⌜ listTold (now (s .entry)) (now (w .exit)) r ≡ mapped (spread k (now (w .entry)) first) (capacityLineBy (now (key .entry)) count (placeOf (now (s .entry)) c)) ⌝ }
+    requires { ⌜ Room (to .k) (to .first) (to .count) (length (now w)) ⌝ }
+    ensures { λ r. ⌜ listTold (now (s .entry)) (now (w .exit)) r ≡ mapped (spread (to .k) (now (w .entry)) (to .first)) (capacityLineBy (now (key .entry)) (to .count) (placeOf (now (s .entry)) c)) ⌝ }
     ensures { λ r. ⌜ listIn (length (now (s .entry))) (c .line + 1) r ⌝ }
     ensures { λ _. ⌜ length (now (w .exit)) ≡ length (now (w .entry)) ⌝ }
 {
-    let line = c.line + 1;
-    if !text::key_at(s, c.at, key) {
-        return Listed::Refused(Refusal::Line(Fault::Form, line));
+    let o = open_line(s, c, key);
+    if !o.there {
+        return Listed::Refused(Refusal::Line(Fault::Form, o.place.line));
     }
-    let from = c.at + key.len();
-    list(s, from, line, w, first, k, count)
+    list(s, o.place, w, to)
 }

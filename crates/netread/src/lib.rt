@@ -38,7 +38,7 @@ fn mark_pin(a: &mut [u32], g: Shape, stamp: u32, low: usize, x: usize, y: usize,
     ensures { λ r. ⌜ r ≡ min low (y * g .w + x) ⌝ }
     ensures { λ _. ⌜ now (a .exit) ≡ marksAfter stamp (now (a .entry)) (y * g .w + x) (l - 1) ⌝ }
 {
-    let here = pins::tile_at(g, x, y);
+    let here = layout::tile_at(g, x, y);
     marks::set_mark(a, stamp, here, (l - 1) as u32);
     lower(low, here)
 }
@@ -109,7 +109,7 @@ fn mark_edge(w: &mut [u32], g: Shape, stamp: u32, v: Again, x: usize, y: usize, 
     requires { ⌜ Fits stamp (tilesOf g (now w)) ⌝ }
     ensures { λ r. ⌜ EdgeMarked g stamp (triple x y d) v (now (w .entry)) (now (w .exit)) r ⌝ }
 {
-    let here = pins::tile_at(g, x, y);
+    let here = layout::tile_at(g, x, y);
     let way = layout::way_out(g, here, d);
     mark_ways(w, g, stamp, here, way.tile, d as u32);
     let i = layout::list_at(g) + v.edges;

@@ -62,7 +62,7 @@ fn edge_of(g: Shape, x: usize, y: usize, d: usize) -> usize
     requires { ⌜ (d ≤ 1) × (edgeInside (g .w) (g .h) (triple x y d) ≡ true) ⌝ }
     ensures { λ r. ⌜ (r ≡ edgeOf g (triple x y d)) × (r < g .e) ⌝ }
 {
-    let here = pins::tile_at(g, x, y);
+    let here = layout::tile_at(g, x, y);
     match d {
         0 => here - y,
         _ => g.east + here,

@@ -4,25 +4,29 @@ use mathlib.Core.Bool.{Bool, true, false, _&&_, _||_, cond}
 use mathlib.Core.List.{List, [], _∷_, map}
 use mathlib.Core.Option.{none, some}
 use mathlib.Core.Path.{_≡_, refl, sym, ap, _∙_}
-use Prim.Native.Nat.{ℕ, _+_, _*_, _-_, _≤_, _<_}
-use native.Mathlib.Numerals.{add-one}
+use Prim.Native.Nat.{ℕ, suc, _+_, _*_, _-_, _≤_, _<_}
 use native.Mathlib.Omega.{arith}
 use lib.ListN.{length, drop}
-use lib.Seq.{drop-drop}
 use Rattle.layout.specs.declared.Shape.{Shape}
-use Rattle.layout.specs.Shapes.{Shaped}
+use Rattle.layout.specs.Shapes.{Shaped, tile-below}
 use Rattle.marks.specs.Marks.{Older}
 use Rattle.model.specs.Job.{Pin}
 use Rattle.model.specs.Lists.{all, twice}
 use Rattle.model.specs.Read.{Result, refused, found, Triple, pinInside, pinAt, samePin, pinsLine}
-use Rattle.model.specs.Text.{bytes}
-use Rattle.scan.specs.Inside.{inside-is, tile-below, false-true}
-use Rattle.scan.specs.Keys.{judged, pins-law, behind-is}
+use Rattle.model.specs.Text.{bytes, behind}
+use Rattle.scan.specs.Inside.{inside-is, false-true}
+use Rattle.scan.specs.Keys.{judged, onKey, pins-law}
 use Rattle.scan.specs.Lines.{Lined}
 use Rattle.scan.specs.Pins.{pinsOf}
-use Rattle.text.specs.Entries.{startsWith}
+use Rattle.text.specs.Refusals.{placeOf}
+use Rattle.text.specs.declared.Cursor.{Cursor}
+use Rattle.lines.specs.Opens.{key-there, key-other}
+use Rattle.lines.specs.Reads.{openedOf}
+use Rattle.lines.specs.Told.{mapped}
+use Rattle.lines.specs.declared.Opened.{Opened}
 use Rattle.pins.specs.Laws.{AllInside, first-twice}
-use Rattle.pins.specs.Pins.{Marked, markPins, markedTwice, newTiles, pinsMarked, start, finish, mapped}
+use Rattle.pins.specs.Pins.{Marked, markPins, markedTwice, newTiles, pinsMarked, pinsIn, start, finish}
+use Rattle.pins.specs.declared.PinsRead.{PinsRead}
 
 module _ (g : Shape) (shaped : Shaped g) (n : ℕ) (a : List ℕ) (older : Older n a) (room : g .t ≤ length a) where
   -- the first of those that pass, and the others
@@ -68,13 +72,19 @@ module _ (g : Shape) (shaped : Shaped g) (n : ℕ) (a : List ℕ) (older : Older
       go false e = refl
       go true e = rw (first-twice n a older pins (all-inside (c .0) e)) (end (twice samePin pins))
 
-  module _ (m : ℕ) (s : List ℕ) (at : ℕ) where
-    pub line-no-key : startsWith (bytes "pins=") (drop at s) ≡ false
-        → refused 2 (m + 1) ≡ mapped (pinsMarked n a) (pinsLine (g .w) (g .h) (g .k) (record { line = m; rest = drop at s }))
-    line-no-key e = sym (rw (pins-law (g .w) (g .h) (g .k) m (drop at s), behind-is (bytes "pins=") (drop at s), e, add-one))
+  -- the line that was opened at c
+  module _ (s : List ℕ) (c : Cursor) (o : Opened) (e : o ≡ openedOf s c (bytes "pins=")) where
+    reads : pinsLine (g .w) (g .h) (g .k) (placeOf s c) ≡ onKey (g .w) (g .h) (g .k) (suc (c .line)) (behind (bytes "pins=") (drop (c .at) s))
+    reads = pins-law (g .w) (g .h) (g .k) (c .line) (drop (c .at) s)
 
-    pub line-key : startsWith (bytes "pins=") (drop at s) ≡ true
-        → finish g n (m + 1) start a (pinsOf (drop (at + 5) s)) ≡ mapped (pinsMarked n a) (pinsLine (g .w) (g .h) (g .k) (record { line = m; rest = drop at s }))
-    line-key e =
-        finish-law (m + 1) (pinsOf (drop (at + 5) s))
-        ∙ sym (rw (pins-law (g .w) (g .h) (g .k) m (drop at s), behind-is (bytes "pins=") (drop at s), e, drop-drop 5 at s, add-one))
+    pub line-other : o .there ≡ false → refused 2 (o .place .line) ≡ mapped (pinsMarked n a) (pinsLine (g .w) (g .h) (g .k) (placeOf s c))
+    line-other t = sym (ap (mapped (pinsMarked n a)) (reads ∙ key-other s c (bytes "pins=") o e (onKey (g .w) (g .h) (g .k)) t))
+
+    pub line-there : o .there ≡ true → finish g n (o .place .line) start a (pinsOf (drop (o .place .at) s)) ≡ mapped (pinsMarked n a) (pinsLine (g .w) (g .h) (g .k) (placeOf s c))
+    line-there t =
+        finish-law (o .place .line) (pinsOf (drop (o .place .at) s))
+        ∙ sym (ap (mapped (pinsMarked n a)) (reads ∙ key-there s c (bytes "pins=") o e (onKey (g .w) (g .h) (g .k)) t))
+
+    -- where its entries and the next line stand
+    pub line-in : (size : ℕ) (r : PinsRead) → pinsIn size (o .place .at) (o .place .line) r → pinsIn size (c .at + 5) (c .line + 1) r
+    line-in size r h = rw e at h

@@ -1,3 +1,3 @@
-mod Entries
+mod Entry
 mod Turns
 mod Law

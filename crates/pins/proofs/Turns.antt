@@ -17,10 +17,12 @@ use Rattle.scan.specs.Lines.{Lined, consTo}
 use Rattle.scan.specs.Pins.{triple, pinsOf, pin-is}
 use Rattle.text.specs.Entries.{pinEntryAt}
 use Rattle.text.specs.declared.Entry.the-variants.{More, Last, Bad}
-use Rattle.text.specs.declared.Fault.the-variants.{Form, Range, PinTwice}
-use Rattle.pins.specs.Pins.{markPin, markPins, markedTwice, newTiles, Marked, markedSeen, seenAfter, workAfter, verdictOf, NextIn, answered, finish}
+use Rattle.text.specs.declared.Cursor.{Cursor}
+use Rattle.text.specs.declared.Fault.the-variants.{Range, PinTwice}
+use Rattle.text.specs.declared.Refusal.the-variants.{Line as OnLine}
+use Rattle.pins.specs.Pins.{markPin, markPins, markedTwice, newTiles, Marked, markedSeen, seenAfter, workAfter, verdictOf, pinsIn, pinsTold, finish}
 use Rattle.pins.specs.declared.PinsRead.{PinsRead}
-use Rattle.pins.specs.declared.PinsRead.the-variants.{Line, Bad as Faulty}
+use Rattle.pins.specs.declared.PinsRead.the-variants.{Line, Refused}
 use Rattle.pins.specs.declared.Seen.{Seen}
 
 -- a fine line
@@ -76,49 +78,57 @@ module _ (g : Shape) (n l : ℕ) (v : Seen) (a : List ℕ) (t : Triple) where
   finish-step none = refl
   finish-step (some c) = finish-some c
 
-pub finish-end : (g : Shape) (n l : ℕ) (v : Seen) (a s : List ℕ) (next : ℕ) → finish g n l v a (some ([], drop next s)) ≡ answered l s a (verdictOf v next)
+pub finish-end : (g : Shape) (n : ℕ) (v : Seen) (a s : List ℕ) (from : ℕ) (c : Cursor) → finish g n (c .line) v a (some ([], drop (c .at) s)) ≡ pinsTold s a (verdictOf v from c)
 unfolding verdictOf
-finish-end g n l v a s next = go (v .inside) (v .twice)
+finish-end g n v a s from c = go (v .inside) (v .twice)
   where
-    zeros : fine l a (v .entries + 0) (v .tiles + 0) (drop next s) ≡ fine l a (v .entries) (v .tiles) (drop next s)
+    l : ℕ
+    l = c .line
+
+    zeros : fine l a (v .entries + 0) (v .tiles + 0) (drop (c .at) s) ≡ fine l a (v .entries) (v .tiles) (drop (c .at) s)
     zeros =
         let x : v .entries + 0 ≡ v .entries = omega arith in
         let y : v .tiles + 0 ≡ v .tiles = omega arith in
-        ap₂ (λ (c d : ℕ). fine l a c d (drop next s)) x y
+        ap₂ (λ (e d : ℕ). fine l a e d (drop (c .at) s)) x y
 
     go : (p q : Bool)
-        → tested l (p && true) (q || false) (fine l a (v .entries + 0) (v .tiles + 0) (drop next s))
-        ≡ answered l s a (cond p (cond q (Faulty PinTwice) (Line next (v .entries) (v .tiles))) (Faulty Range))
+        → tested l (p && true) (q || false) (fine l a (v .entries + 0) (v .tiles + 0) (drop (c .at) s))
+        ≡ pinsTold s a (cond p (cond q (Refused (OnLine PinTwice l)) (Line (record { from = from; entries = v .entries; tiles = v .tiles }) c)) (Refused (OnLine Range l)))
     go true true = refl
     go true false = zeros
     go false q = refl
 
 -- ---- by what stands at the place
 
-module _ (g : Shape) (n : ℕ) (s : List ℕ) (i : ℕ) (v : Seen) (a : List ℕ) where
-  pub turn-bad : Bad ≡ pinEntryAt s i → (l : ℕ) → finish g n l v a (pinsOf (drop i s)) ≡ refused 2 l
-  turn-bad e l = rw (pin-is s i Bad e)
+module _ (g : Shape) (n l : ℕ) (s : List ℕ) (i : ℕ) (v : Seen) (a : List ℕ) where
+  pub turn-bad : Bad ≡ pinEntryAt s i → finish g n l v a (pinsOf (drop i s)) ≡ refused 2 l
+  turn-bad e = rw (pin-is s i Bad e)
 
   module _ (x y z next : ℕ) (v' : Seen) (a' : List ℕ) (p : v' ≡ seenAfter g n a v (triple x y z)) (q : a' ≡ workAfter g n a (triple x y z)) where
-    pub turn-more : More x y z next ≡ pinEntryAt s i → (l : ℕ) → finish g n l v a (pinsOf (drop i s)) ≡ finish g n l v' a' (pinsOf (drop next s))
-    turn-more e l =
+    pub turn-more : More x y z next ≡ pinEntryAt s i → finish g n l v a (pinsOf (drop i s)) ≡ finish g n l v' a' (pinsOf (drop next s))
+    turn-more e =
         rw (pin-is s i (More x y z next) e .0)
         (finish-step g n l v a (triple x y z) (pinsOf (drop next s)) ∙ sym (λ j. finish g n l (p j) (q j) (pinsOf (drop next s))))
 
-    pub turn-last : (r : PinsRead) → r ≡ verdictOf v' next → Last x y z next ≡ pinEntryAt s i → (l : ℕ) → finish g n l v a (pinsOf (drop i s)) ≡ answered l s a' r
-    turn-last r h e l =
+    pub turn-last : (from : ℕ) (r : PinsRead) → r ≡ verdictOf v' from (record { at = next; line = l }) → Last x y z next ≡ pinEntryAt s i → finish g n l v a (pinsOf (drop i s)) ≡ pinsTold s a' r
+    turn-last from r h e =
         rw (pin-is s i (Last x y z next) e .0)
-        (finish-some g n l v a (triple x y z) ([], drop next s) ∙ sym (λ j. finish g n l (p j) (q j) (some ([], drop next s))) ∙ finish-end g n l v' a' s next ∙ ap (answered l s a') (sym h))
+        (finish-some g n l v a (triple x y z) ([], drop next s)
+        ∙ sym (λ j. finish g n l (p j) (q j) (some ([], drop next s)))
+        ∙ finish-end g n v' a' s from (record { at = next; line = l })
+        ∙ ap (pinsTold s a') (sym h))
 
 pub turn-place : (s : List ℕ) (i x y z next : ℕ) → More x y z next ≡ pinEntryAt s i → (i < next) × (next ≤ length s)
 turn-place s i x y z next e = (pin-is s i (More x y z next) e .1, pin-is s i (More x y z next) e .2)
 
 -- the place after the line is in the text
-pub last-place : (s : List ℕ) (i x y z next : ℕ) → Last x y z next ≡ pinEntryAt s i → (v : Seen) (r : PinsRead) → r ≡ verdictOf v next → NextIn (length s) r
+pub last-place : (s : List ℕ) (i x y z next : ℕ) → Last x y z next ≡ pinEntryAt s i → (v : Seen) (from l : ℕ) (r : PinsRead) → r ≡ verdictOf v from (record { at = next; line = l }) → pinsIn (length s) from l r
 unfolding verdictOf
-last-place s i x y z next e v r h = rw h (go (v .inside) (v .twice))
+last-place s i x y z next e v from l r h = rw h (go (v .inside) (v .twice))
   where
-    go : (p q : Bool) → NextIn (length s) (cond p (cond q (Faulty PinTwice) (Line next (v .entries) (v .tiles))) (Faulty Range))
+    go : (p q : Bool)
+        → pinsIn (length s) from l
+        (cond p (cond q (Refused (OnLine PinTwice l)) (Line (record { from = from; entries = v .entries; tiles = v .tiles }) (record { at = next; line = l }))) (Refused (OnLine Range l)))
     go true true = tt
-    go true false = pin-is s i (Last x y z next) e .1
+    go true false = (refl, record { place = pin-is s i (Last x y z next) e .1; lines = refl })
     go false q = tt

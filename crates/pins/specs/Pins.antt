@@ -3,20 +3,23 @@
 use mathlib.Core.Bool.{Bool, true, false, _&&_, _||_, not, cond}
 use mathlib.Core.List.{List, [], _∷_, map}
 use mathlib.Core.Option.{Option, none, some}
-use Prim.Native.Nat.{ℕ, _+_, _-_, _*_, _≤_}
+use mathlib.Core.Path.{_≡_}
+use Prim.Native.Nat.{ℕ, _+_, _-_, _*_}
 use lib.Dec.{eqb}
-use lib.ListN.{length, drop}
+use lib.ListN.{length}
 use Rattle.layout.specs.declared.Shape.{Shape}
 use Rattle.marks.specs.Marks.{bitsAt, marked, mark, marksAfter}
 use Rattle.model.specs.Job.{Pin}
 use Rattle.model.specs.Lists.{all, bit}
 use Rattle.model.specs.Read.{Place, Result, refused, found, Triple, pinInside, pinAt}
 use Rattle.scan.specs.Lines.{Lined}
-use Rattle.text.specs.Refusals.{faultNumber}
-use Rattle.text.specs.declared.Fault.{Fault}
-use Rattle.text.specs.declared.Fault.the-variants.{Form, Range, PinTwice}
+use Rattle.lines.specs.Told.{After, refusedBy}
+use Rattle.text.specs.Refusals.{placeOf}
+use Rattle.text.specs.declared.Cursor.{Cursor}
+use Rattle.text.specs.declared.Fault.the-variants.{Range, PinTwice}
+use Rattle.text.specs.declared.Refusal.the-variants.{Line as OnLine}
 use Rattle.pins.specs.declared.PinsRead.{PinsRead}
-use Rattle.pins.specs.declared.PinsRead.the-variants.{Line, Bad}
+use Rattle.pins.specs.declared.PinsRead.the-variants.{Line, Refused}
 use Rattle.pins.specs.declared.Seen.{Seen}
 
 -- ---- the marks of a list of pins
@@ -71,20 +74,22 @@ seenAfter g n a v t =
 unfoldable pub workAfter : Shape → ℕ → List ℕ → Triple → List ℕ
 workAfter g n a t = cond (pinInside (g .w) (g .h) (g .k) t) (marksAfter n a (pinAt (g .w) t .tile) (t .third - 1)) a
 
-unfoldable pub verdictOf : Seen → ℕ → PinsRead
-verdictOf v next = cond (v .inside) (cond (v .twice) (Bad PinTwice) (Line next (v .entries) (v .tiles))) (Bad Range)
+unfoldable pub verdictOf : Seen → ℕ → Cursor → PinsRead
+verdictOf v from c =
+    cond (v .inside) (cond (v .twice) (Refused (OnLine PinTwice (c .line))) (Line (record { from = from; entries = v .entries; tiles = v .tiles }) c))
+    (Refused (OnLine Range (c .line)))
 
 -- ---- the line
 
--- the place after a fine line is in a text of this size
-abbrev pub NextIn : ℕ → PinsRead → Type 0
-NextIn size (Bad f) = Unit {0}
-NextIn size (Line next e t) = next ≤ size
+-- the entries of a fine line stand at `from`, and the place after it is in a text of this size
+abbrev pub pinsIn : ℕ → ℕ → ℕ → PinsRead → Type 0
+pinsIn size from line (Refused r) = Unit {0}
+pinsIn size from line (Line p c) = (p .from ≡ from) × After size line c
 
--- the answer in the definitions' words: a refusal with its line, or what the line leaves and the next place
-abbrev pub answered : ℕ → List ℕ → List ℕ → PinsRead → Result Marked
-answered n s a (Bad f) = refused (faultNumber f) n
-answered n s a (Line next e t) = found (record { marks = a; entries = e; tiles = t }) (record { line = n; rest = drop next s })
+-- the answer in the definitions' words: a refusal, or what the line leaves and the next place
+abbrev pub pinsTold : List ℕ → List ℕ → PinsRead → Result Marked
+pinsTold s a (Refused r) = refusedBy r
+pinsTold s a (Line p c) = found (record { marks = a; entries = p .entries; tiles = p .tiles }) (placeOf s c)
 
 -- the entries from here on, after what was seen and marked so far
 abbrev pub finish : Shape → ℕ → ℕ → Seen → List ℕ → Lined → Result Marked
@@ -95,8 +100,3 @@ finish g n l v a (some c) =
     (cond (v .twice || markedTwice n a pins) (refused 5 l)
     (found (record { marks = markPins n a pins; entries = v .entries + length pins; tiles = v .tiles + newTiles n a pins }) (record { line = l; rest = c .1 })))
     (refused 3 l)
-
-module _ {A B : Type 0} where
-  abbrev pub mapped : (A → B) → Result A → Result B
-  mapped f (refused k l) = refused k l
-  mapped f (found a p) = found (f a) p

@@ -1,7 +1,9 @@
 // The `pins` line of a net, judged and marked from left to right: the form of the whole line first, then range, then the same pin twice.
 use layout::Shape;
 use marks::Put;
+use text::Cursor;
 use text::Fault;
+use text::Refusal;
 ghost use mathlib.Core.Path.{_≡_};
 ghost use mathlib.Core.Bool.{true, false};
 ghost use Prim.Native.Nat.{ℕ, _+_, _-_, _*_, _<_, _≤_};
@@ -10,7 +12,9 @@ ghost use Rattle.layout.specs.Shapes.{Shaped};
 ghost use Rattle.marks.specs.Marks.{marksAfter, Older};
 ghost use Rattle.model.specs.Read.{pinInside, pinsLine};
 ghost use Rattle.scan.specs.Pins.{triple, pinsOf};
-ghost use Rattle.pins.specs.Pins.{markedSeen, seenAfter, workAfter, verdictOf, NextIn, start, answered, finish, mapped, pinsMarked};
+ghost use Rattle.lines.specs.Told.{mapped};
+ghost use Rattle.text.specs.Refusals.{placeOf};
+ghost use Rattle.pins.specs.Pins.{markedSeen, seenAfter, workAfter, verdictOf, pinsIn, start, pinsTold, finish, pinsMarked};
 
 // What the entries of a line have shown so far: how many they are, in how many tiles, all inside the grid, one of them twice.
 pub struct Seen {
@@ -20,10 +24,17 @@ pub struct Seen {
     pub twice: bool,
 }
 
-// A `pins` line: the place after it, its entries, and the tiles that they are in; or its fault.
+// The entries of a `pins` line: where they stand, how many they are, and in how many tiles.
+pub struct Pins {
+    pub from: usize,
+    pub entries: usize,
+    pub tiles: usize,
+}
+
+// A `pins` line that was read, and the place of the next line.
 pub enum PinsRead {
-    Line(usize, usize, usize),
-    Bad(Fault),
+    Line(Pins, Cursor),
+    Refused(Refusal),
 }
 
 // "x is below W, y below H, l is 1 to K"
@@ -40,15 +51,6 @@ fn inside(g: Shape, x: usize, y: usize, l: usize) -> bool
         return false;
     }
     l <= g.k
-}
-
-// The number of a tile inside the grid.
-pub fn tile_at(g: Shape, x: usize, y: usize) -> usize
-    requires { ⌜ Shaped g ⌝ }
-    requires { ⌜ (x < g .w) × (y < g .h) ⌝ }
-    ensures { λ r. ⌜ (r ≡ y * g .w + x) × (r < g .t) ⌝ }
-{
-    y * g.w + x
 }
 
 // One more pin inside the grid, on layer l of the tile `here`.
@@ -95,32 +97,37 @@ fn put_pin(a: &mut [u32], g: Shape, stamp: u32, v: Seen, x: usize, y: usize, l: 
             twice: v.twice,
         };
     }
-    let here = tile_at(g, x, y);
+    let here = layout::tile_at(g, x, y);
     mark_pin(a, stamp, here, l, v)
 }
 
-// The verdict on a line whose form is right.
-fn verdict(v: Seen, next: usize) -> PinsRead
-    ensures { λ r. ⌜ r ≡ verdictOf v next ⌝ }
+// The verdict on a line whose form is right: its entries stand from `from` on, and c is the place after it.
+fn verdict(v: Seen, from: usize, c: Cursor) -> PinsRead
+    ensures { λ r. ⌜ r ≡ verdictOf v from c ⌝ }
 {
     if !v.inside {
-        return PinsRead::Bad(Fault::Range);
+        return PinsRead::Refused(Refusal::Line(Fault::Range, c.line));
     }
     if v.twice {
-        return PinsRead::Bad(Fault::PinTwice);
+        return PinsRead::Refused(Refusal::Line(Fault::PinTwice, c.line));
     }
-    PinsRead::Line(next, v.entries, v.tiles)
+    let p = Pins {
+        from,
+        entries: v.entries,
+        tiles: v.tiles,
+    };
+    PinsRead::Line(p, c)
 }
 
-// The entries of a `pins` line from `at` on.
-pub fn pins(s: &[u8], at: usize, a: &mut [u32], g: Shape, stamp: u32) -> PinsRead
+// The entries of a `pins` line, which stand from c on.
+fn entries(s: &[u8], c: Cursor, a: &mut [u32], g: Shape, stamp: u32) -> PinsRead
     requires { ⌜ Shaped g ⌝ }
     requires { ⌜ (g .t ≤ length (now a)) × (stamp ≤ 8192) × (length (now s) ≤ 1048576) ⌝ }
-    ensures { λ r. ⌜ ((n : ℕ) → answered n (now (s .entry)) (now (a .exit)) r ≡ finish g stamp n start (now (a .entry)) (pinsOf (drop at (now (s .entry))))) ⌝ }
-    ensures { λ r. ⌜ NextIn (length (now (s .entry))) r ⌝ }
+    ensures { λ r. ⌜ pinsTold (now (s .entry)) (now (a .exit)) r ≡ finish g stamp (c .line) start (now (a .entry)) (pinsOf (drop (c .at) (now (s .entry)))) ⌝ }
+    ensures { λ r. ⌜ pinsIn (length (now (s .entry))) (c .at) (c .line) r ⌝ }
     ensures { λ _. ⌜ length (now (a .exit)) ≡ length (now (a .entry)) ⌝ }
 {
-    let mut i = at;
+    let mut i = c.at;
     let mut v = Seen {
         entries: 0,
         tiles: 0,
@@ -131,27 +138,32 @@ pub fn pins(s: &[u8], at: usize, a: &mut [u32], g: Shape, stamp: u32) -> PinsRea
         let entry = text::pin_at(s, i);
         let e = text::item_of(entry);
         if !e.good {
-            return PinsRead::Bad(Fault::Form);
+            return PinsRead::Refused(Refusal::Line(Fault::Form, c.line));
         }
         v = put_pin(a, g, stamp, v, e.x, e.y, e.z);
         i = e.next;
         if e.last {
-            return verdict(v, i);
+            let next = Cursor {
+                at: i,
+                line: c.line,
+            };
+            return verdict(v, c.at, next);
         }
     }
 }
 
-// The `pins` line at `at`. The marks are those of earlier nets.
-pub fn pins_line(s: &[u8], at: usize, a: &mut [u32], g: Shape, stamp: u32) -> PinsRead
+// The `pins` line at c. The marks are those of earlier nets.
+pub fn pins_line(s: &[u8], c: Cursor, a: &mut [u32], g: Shape, stamp: u32) -> PinsRead
     requires { ⌜ Shaped g ⌝ }
-    requires { ⌜ (g .t ≤ length (now a)) × (stamp ≤ 8192) × (length (now s) ≤ 1048576) × (at ≤ length (now s)) ⌝ }
+    requires { ⌜ (g .t ≤ length (now a)) × (stamp ≤ 8192) × (length (now s) ≤ 1048576) × (c .at ≤ length (now s)) × (c .line < 1048576) ⌝ }
     requires { ⌜ Older stamp (now a) ⌝ }
-    ensures { λ r. ⌜ ((n : ℕ) → answered (n + 1) (now (s .entry)) (now (a .exit)) r ≡ mapped (pinsMarked stamp (now (a .entry))) (pinsLine (g .w) (g .h) (g .k) (record { line = n; rest = drop at (now (s .entry)) }))) ⌝ }
-    ensures { λ r. ⌜ NextIn (length (now (s .entry))) r ⌝ }
+    ensures { λ r. ⌜ pinsTold (now (s .entry)) (now (a .exit)) r ≡ mapped (pinsMarked stamp (now (a .entry))) (pinsLine (g .w) (g .h) (g .k) (placeOf (now (s .entry)) c)) ⌝ }
+    ensures { λ r. ⌜ pinsIn (length (now (s .entry))) (c .at + 5) (c .line + 1) r ⌝ }
     ensures { λ _. ⌜ length (now (a .exit)) ≡ length (now (a .entry)) ⌝ }
 {
-    if !text::key_at(s, at, b"pins=") {
-        return PinsRead::Bad(Fault::Form);
+    let o = lines::open_line(s, c, b"pins=");
+    if !o.there {
+        return PinsRead::Refused(Refusal::Line(Fault::Form, o.place.line));
     }
-    pins(s, at + 5, a, g, stamp)
+    entries(s, o.place, a, g, stamp)
 }

@@ -40,7 +40,7 @@ use Rattle.planning.specs.declared.Totals.{Totals}
 
 -- ---- a text that is read
 
-module _ (s : List ℕ) (lent : Lent) (w table : List ℕ) (h : Head) (entries : ℕ) (k : JobFound s lent w table h entries) where
+module _ (s : List ℕ) (lent : Lent) (w table : List ℕ) (h : Head) (k : JobFound s lent w table h) where
   job-accepted : Accepted lent (k .job)
   job-accepted = accepted lent s (k .job) (k .place) (k .is)
 

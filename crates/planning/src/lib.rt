@@ -67,7 +67,7 @@ fn open_job(
 {
     match reader::read_job(s, w, table, order, answer, print) {
         JobRead::Refused(r) => Opened::Refused(r),
-        JobRead::Job(h, _) => {
+        JobRead::Job(h) => {
             flat::flat_capacities(w, h.shape);
             order::score_nets(s, w, h.shape, weights_of(h), table, h.nets);
             Opened::Job(h)

@@ -8,25 +8,26 @@ use lib.ListN.{length, drop}
 use Rattle.edges.specs.Line.{LineFound, LineRead}
 use Rattle.edges.specs.Pins.{PinsFound, pins-found, pins-reading, pins-begun}
 use Rattle.edges.specs.Reading.{tilesOf, linksOf, edgesOn, Reading, Few, Begun}
+use Rattle.edges.specs.declared.Edges.{Edges}
 use Rattle.edges.specs.declared.EdgesRead.{EdgesRead}
-use Rattle.edges.specs.declared.EdgesRead.the-variants.{Bad as BadEdges}
+use Rattle.edges.specs.declared.EdgesRead.the-variants.{Refused as BadEdges}
 use Rattle.layout.specs.Areas.{demandAt, tilesAt, chosenAt}
 use Rattle.layout.specs.Parts.{Outside}
 use Rattle.layout.specs.Shapes.{Shaped}
 use Rattle.layout.specs.Table.{tableSize}
 use Rattle.layout.specs.declared.Shape.{Shape}
-use Rattle.lines.specs.Told.{refusedBy}
+use Rattle.lines.specs.Told.{After, mapped, refusedBy}
 use Rattle.marks.specs.Marks.{fits-older}
 use Rattle.model.specs.Job.{Net}
 use Rattle.model.specs.Read.{Place, Result, refused, found, pinsLine, edgesLine}
-use Rattle.net.specs.Table.{EdgesAt}
-use Rattle.pins.specs.Pins.{NextIn, answered, mapped, pinsMarked}
+use Rattle.net.specs.Table.{PinsAt, EdgesAt}
+use Rattle.pins.specs.Pins.{pinsIn, pinsTold, pinsMarked}
+use Rattle.pins.specs.declared.Pins.{Pins}
 use Rattle.pins.specs.declared.PinsRead.{PinsRead}
-use Rattle.pins.specs.declared.PinsRead.the-variants.{Bad as BadPins, Line as PinsLine}
-use Rattle.text.specs.Refusals.{placeOf, faultNumber}
+use Rattle.pins.specs.declared.PinsRead.the-variants.{Refused as BadPins, Line as PinsLine}
+use Rattle.text.specs.Refusals.{placeOf, numberOf, lineOf}
 use Rattle.text.specs.declared.Cursor.{Cursor}
-use Rattle.text.specs.declared.Fault.{Fault}
-use Rattle.text.specs.declared.Refusal.the-variants.{Line}
+use Rattle.text.specs.declared.Refusal.{Refusal}
 use Rattle.theory.specs.links.Edges.{nearOf}
 use Rattle.theory.specs.links.Nets.{NetOk, tree-of}
 use Rattle.theory.specs.links.Reach.{loOf, hiOf}
@@ -73,9 +74,9 @@ module _ {A B : Type 0} where
   mapped-refused f (refused a b) n l e = sym (ap₂ {C = Result A} (λ x y. refused x y) (let y : n ≡ a = cc in y) (let y : l ≡ b = cc in y))
   mapped-refused f (found a p) n l e = absurd (let y : _≡_ {A = ℕ} 0 1 = cc in omega arith)
 
--- the place after a fine `pins` line
-pub next-in : (size : ℕ) (r : PinsRead) (n e t : ℕ) → r ≡ PinsLine n e t → NextIn size r → n ≤ size
-next-in size r n e t k h = rw k at h
+-- where a fine `pins` line stands
+pub line-in : (size from line : ℕ) (r : PinsRead) (p : Pins) (d : Cursor) → r ≡ PinsLine p d → pinsIn size from line r → (p .from ≡ from) × After size line d
+line-in size from line r p d k h = rw k at h
 
 module _ (s : List ℕ) (c : Cursor) (g : Shape) (shaped : Shaped g) (i : ℕ) (w₀ : List ℕ) (ready : NetReady g i w₀) where
   abbrev W : ℕ
@@ -88,20 +89,17 @@ module _ (s : List ℕ) (c : Cursor) (g : Shape) (shaped : Shaped g) (i : ℕ) (
   K = g .k
 
   -- the `pins` line is refused
-  pub pins-bad : (a : List ℕ) (r : PinsRead) → ((l : ℕ) → answered (l + 1) s a r ≡ mapped (pinsMarked (i + 1) (tilesOf g w₀)) (pinsLine (g .w) (g .h) (g .k) (record { line = l; rest = drop (c .at) s })))
-      → (f : Fault) → r ≡ BadPins f → bodyIn (g .w) (g .h) (g .k) (placeOf s c) ≡ refusedBy (Line f (c .line + 1))
+  pub pins-bad : (a : List ℕ) (r : PinsRead) → pinsTold s a r ≡ mapped (pinsMarked (i + 1) (tilesOf g w₀)) (pinsLine (g .w) (g .h) (g .k) (placeOf s c))
+      → (f : Refusal) → r ≡ BadPins f → bodyIn (g .w) (g .h) (g .k) (placeOf s c) ≡ refusedBy f
   unfolding bodyIn
   pins-bad a r told f e =
-      rw (mapped-refused (pinsMarked (i + 1) (tilesOf g w₀)) (pinsLine W H K (placeOf s c)) (faultNumber f) (c .line + 1)
-      (ap (answered (c .line + 1) s a) (sym e) ∙ told (c .line)))
+      rw (mapped-refused (pinsMarked (i + 1) (tilesOf g w₀)) (pinsLine W H K (placeOf s c)) (numberOf f) (lineOf f) (ap (pinsTold s a) (sym e) ∙ told))
 
   -- it is fine
-  module _ (w₁ : List ℕ) (nextAt entries tiles : ℕ)
-      (told : answered (c .line + 1) s (tilesOf g w₁) (PinsLine nextAt entries tiles)
-      ≡ mapped (pinsMarked (i + 1) (tilesOf g w₀)) (pinsLine (g .w) (g .h) (g .k) (record { line = c .line; rest = drop (c .at) s })))
-      (out : Outside (tilesAt g) (g .t) w₀ w₁) where
-    pub fine : PinsFound g (i + 1) s (c .at) (c .line) (tilesOf g w₀) (tilesOf g w₁) nextAt entries tiles
-    fine = pins-found g shaped (i + 1) s (c .at) (c .line) (tilesOf g w₀) (tilesOf g w₁) nextAt entries tiles told
+  module _ (w₁ : List ℕ) (p : Pins) (d : Cursor) (told : pinsTold s (tilesOf g w₁) (PinsLine p d) ≡ mapped (pinsMarked (i + 1) (tilesOf g w₀)) (pinsLine (g .w) (g .h) (g .k) (placeOf s c)))
+      (out : Outside (tilesAt g) (g .t) w₀ w₁) (at : (p .from ≡ c .at + 5) × After (length s) (c .line + 1) d) where
+    pub fine : PinsFound g (i + 1) s c (tilesOf g w₀) (tilesOf g w₁) p d
+    fine = pins-found g shaped (i + 1) s c (tilesOf g w₀) (tilesOf g w₁) p d told
 
     pub still-few : Few g (i + 1) w₁
     still-few e h = omega (arith, out .low (demandAt g + e) (omega arith), ready .few e h)
@@ -109,51 +107,43 @@ module _ (s : List ℕ) (c : Cursor) (g : Shape) (shaped : Shaped g) (i : ℕ) (
     pub still-room : chosenAt g ≤ length w₁
     still-room = omega (arith, out .long, ready .room)
 
-    pub begun : Begun g (i + 1) tiles w₁
+    pub begun : Begun g (i + 1) (p .tiles) w₁
     begun =
         subst (λ (k : ℕ). Begun g (i + 1) k w₁) (sym (fine .parts))
         (pins-begun g (i + 1) (fine .pins) (fine .fit) w₀ w₁ (ready .room) (λ t. omega (arith, ready .marks t)) (λ t. omega (arith, ready .links t)) out (fine .marks))
 
-    pub reading : Reading g (i + 1) (fine .pins) [] tiles w₀ w₁
+    pub reading : Reading g (i + 1) (fine .pins) [] (p .tiles) w₀ w₁
     reading =
         subst (λ (k : ℕ). Reading g (i + 1) (fine .pins) [] k w₀ w₁) (sym (fine .parts))
         (pins-reading g (i + 1) (fine .pins) (fine .fit) w₀ w₁ (ready .room) (λ t. omega (arith, ready .marks t)) (λ t. omega (arith, ready .links t)) out (fine .marks))
 
     -- the `edges` line is refused
-    pub edges-bad : (w₂ : List ℕ) (r : EdgesRead) → LineRead g (i + 1) s nextAt (fine .pins) w₀ w₂ r → (f : Fault) → r ≡ BadEdges f
-        → bodyIn (g .w) (g .h) (g .k) (placeOf s c) ≡ refusedBy (Line f (c .line + 2))
+    pub edges-bad : (w₂ : List ℕ) (r : EdgesRead) → LineRead g (i + 1) s d (fine .pins) w₀ w₂ r → (f : Refusal) → r ≡ BadEdges f → bodyIn (g .w) (g .h) (g .k) (placeOf s c) ≡ refusedBy f
     unfolding bodyIn
-    edges-bad w₂ r line f e =
-        let y : c .line + 1 + 1 ≡ c .line + 2 = omega arith in
-        rw (fine .is, subst (λ (z : EdgesRead). LineRead g (i + 1) s nextAt (fine .pins) w₀ w₂ z) e line (c .line + 1), y)
+    edges-bad w₂ r line f e = rw (fine .is, subst (λ (z : EdgesRead). LineRead g (i + 1) s d (fine .pins) w₀ w₂ z) e line)
 
     -- it is fine
-    module _ (w₂ : List ℕ) (after count : ℕ) (line : LineFound g (i + 1) s nextAt (fine .pins) w₀ w₂ after count) where
+    module _ (w₂ : List ℕ) (e : Edges) (f : Cursor) (line : LineFound g (i + 1) s d (fine .pins) w₀ w₂ e f) where
       abbrev net : Net
       net = record { pins = fine .pins; edges = edgesOn g (line .line .entries) }
 
       pub ok : NetOk (g .w) (g .h) (g .k) (record { pins = fine .pins; edges = edgesOn g (line .line .entries) })
-      ok = net-ok W H K net (placeOf s c) _ _ _ (fine .is) (line .is 0)
+      ok = net-ok W H K net (placeOf s c) _ _ _ (fine .is) (line .is)
 
-      pub pins-number : entries ≤ 16777216
+      pub pins-number : p .entries ≤ 16777216
       pins-number = omega (arith, fine .count, pins-few W H K net (shaped .k-most) ok, shaped .t-is, shaped .t-most)
 
-      stands : EdgesAt s (g .w) (g .h) (nextAt + 6) (record { pins = fine .pins; edges = edgesOn g (line .line .entries) })
+      stands : EdgesAt s (g .w) (g .h) (e .from) (record { pins = fine .pins; edges = edgesOn g (line .line .entries) })
       stands = record {
         entries = line .line .entries;
-        rest = drop after s;
+        rest = drop (f .at) s;
         there = line .line .text;
         inside = line .line .inside;
         are = refl;
       }
 
-      pub edges-number : count ≤ 4096
+      pub edges-number : e .entries ≤ 4096
       edges-number = omega (arith, line .line .count-is, few-edges g shaped net ok)
-
-      found-is : bodyIn (g .w) (g .h) (g .k) (placeOf s c)
-          ≡ found (record { pins = fine .pins; edges = edgesOn g (line .line .entries) }) (placeOf s (record { at = after; line = c .line + 2 }))
-      unfolding bodyIn
-      found-is = let y : c .line + 1 + 1 ≡ c .line + 2 = omega arith in rw (fine .is, line .is (c .line + 1), y)
 
       counted : NetCounted g i (record { pins = fine .pins; edges = edgesOn g (line .line .entries) }) w₀ w₂
       counted =
@@ -167,17 +157,17 @@ module _ (s : List ℕ) (c : Cursor) (g : Shape) (shaped : Shaped g) (i : ℕ) (
           }
 
       pub body-found : (table : List ℕ) (first : ℕ) → tableSize ≤ length table
-          → NetFound s g i first (c .line + 2) w₀ w₂ table (rowPut table i (c .at + 5) (nextAt + 6) entries first count) (bodyIn (g .w) (g .h) (g .k) (placeOf s c))
-          (record { at = after; line = c .line + 2 }) count
+          → NetFound s g i first (c .line + 2) w₀ w₂ table (rowPut table i (p .from) (e .from) (p .entries) first (e .entries)) (bodyIn (g .w) (g .h) (g .k) (placeOf s c)) f (e .entries)
+      unfolding bodyIn
       body-found table first room = record {
         net = net;
-        is = found-is;
-        after = record { place = line .line .place; lines = refl };
+        is = rw (fine .is, line .is);
+        after = record { place = line .line .after .place; lines = omega (arith, line .line .after .lines, at .1 .lines) };
         count-is = line .line .count-is;
         counted = counted;
         row =
-            row-stands table i (c .at + 5) (nextAt + 6) entries first count (ready .turn) room s W H K net
-            (pins-stand s W H K (c .at) net (c .line) _ (fine .is)) stands (fine .count) (line .line .count-is);
-        table-long = row-long table i (c .at + 5) (nextAt + 6) entries first count (ready .turn) room;
-        rows-before = row-others table i (c .at + 5) (nextAt + 6) entries first count (ready .turn) room;
+            row-stands table i (p .from) (e .from) (p .entries) first (e .entries) (ready .turn) room s W H K net
+            (subst (λ (m : ℕ). PinsAt s W H K m net) (sym (at .0)) (pins-stand s W H K (c .at) net (c .line) _ (fine .is))) stands (fine .count) (line .line .count-is);
+        table-long = row-long table i (p .from) (e .from) (p .entries) first (e .entries) (ready .turn) room;
+        rows-before = row-others table i (p .from) (e .from) (p .entries) first (e .entries) (ready .turn) room;
       }

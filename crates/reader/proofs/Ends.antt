@@ -85,7 +85,7 @@ module _ (s : List ℕ) (h : Head) (answer : ℕ) (print : PrintRoom) (p : Place
           rest-ends working order
           ∙ ap (λ (x : Result (Unit {0})). next x (λ u. give (jobOf h w₀ (k .nets)))) (sym told ∙ ap (turnTold s) e)
 
-      pub rest-found : (c : Cursor) → r ≡ Next c → RestFound s h answer print p w₀ w table entries
+      pub rest-found : (c : Cursor) → r ≡ Next c → RestFound s h answer print p w₀ w table
       rest-found c e = record {
         nets-read = k .nets;
         place = placeOf s c;
@@ -93,5 +93,6 @@ module _ (s : List ℕ) (h : Head) (answer : ℕ) (print : PrintRoom) (p : Place
             rest-ends working order
             ∙ ap (λ (x : Result (Unit {0})). next x (λ u. give (jobOf h w₀ (k .nets)))) (sym told ∙ ap (turnTold s) e);
         count = k .count;
+        entries = entries;
         so-read = k .so-read;
       }

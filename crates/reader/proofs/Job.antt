@@ -117,14 +117,14 @@ module _ (s : List ℕ) (order : ℕ) (w : List ℕ) (w₁ : List ℕ) (r : Head
             → read (lentBy (length w) order answer print) s ≡ refusedBy f
         rest-refused f k = read-on ∙ k (length w) order
 
-        module _ (entries : ℕ) (found-rest : RestFound s h answer print (placeOf s c) v w₂ table entries) where
+        module _ (found-rest : RestFound s h answer print (placeOf s c) v w₂ table) where
           abbrev ns : List Net
           ns = found-rest .nets-read
 
           abbrev job : Job
           job = jobOf h v (found-rest .nets-read)
 
-          abbrev so : SoRead s (h .shape) (found-rest .nets-read) entries v w₂ table
+          abbrev so : SoRead s (h .shape) (found-rest .nets-read) (found-rest .entries) v w₂ table
           so = found-rest .so-read
 
           capacities-are : Capacities (h .shape) (jobOf h v (found-rest .nets-read)) w₂
@@ -145,7 +145,7 @@ module _ (s : List ℕ) (order : ℕ) (w : List ℕ) (w₁ : List ℕ) (r : Head
               let z : i ≡ suc i - 1 = omega arith in
               subst (λ (m : ℕ). RowAt s (h .shape .w) (h .shape .h) (h .shape .k) table i (offset (edgesOf ns) i) (getD ns m noNet)) z (so .rows i b) .pin-count
 
-          pub job-found : JobFound s (lentBy (length w) order answer print) w₂ table h entries
+          pub job-found : JobFound s (lentBy (length w) order answer print) w₂ table h
           job-found = record {
             job = job;
             place = found-rest .place;
@@ -165,9 +165,8 @@ module _ (s : List ℕ) (order : ℕ) (w : List ℕ) (w₁ : List ℕ) (r : Head
             beta = refl;
             gamma = refl;
             nets = sym (found-rest .count);
-            entries-are = so .entries-are;
           }
 
       pub job-told : (w₂ table : List ℕ) (a : JobRead) → RestTold s h answer print (placeOf s c) v w₂ table a → JobTold s (lentBy (length w) order answer print) w₂ table a
       job-told w₂ table (Refused f) t = rest-refused w₂ table f t
-      job-told w₂ table (accepted k entries) t = subst (λ (x : Head). JobFound s lent w₂ table x entries) (sym (t .0)) (job-found w₂ table entries (t .1))
+      job-told w₂ table (accepted k) t = subst (λ (x : Head). JobFound s lent w₂ table x) (sym (t .0)) (job-found w₂ table (t .1))

@@ -1,9 +1,12 @@
 -- The row of a net, stored number after number.
 -- Assumes nothing.
 use mathlib.Core.List.{List}
+use mathlib.Core.Path.{_≡_}
 use Prim.Native.Nat.{ℕ, _<_}
 use native.Mathlib.Omega.{arith}
 use lib.ListN.{length, set, length-set}
+use Rattle.layout.specs.Table.{pinsColumn, edgesColumn, entriesColumn, firstColumn, countColumn}
+use Rattle.reader.specs.Rows.{rowPut}
 
 -- a place is still in the table
 module _ (t : List ℕ) (i : ℕ) (h : i < length t) (a x b y c z d u : ℕ) where
@@ -18,3 +21,8 @@ module _ (t : List ℕ) (i : ℕ) (h : i < length t) (a x b y c z d u : ℕ) whe
 
   pub still-four : i < length (set (set (set (set t a x) b y) c z) d u)
   still-four = omega (arith, still-three, length-set (set (set (set t a x) b y) c z) d u)
+
+-- all five, where each place is that of its column
+pub row-is : (t : List ℕ) (i a b c d e x y z u v : ℕ) → a ≡ pinsColumn i → b ≡ edgesColumn i → c ≡ entriesColumn i → d ≡ firstColumn i → e ≡ countColumn i
+    → set (set (set (set (set t a x) b y) c z) d u) e v ≡ rowPut t i x y z u v
+row-is t i a b c d e x y z u v p q r k l = rw (p, q, r, k, l)

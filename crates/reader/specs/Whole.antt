@@ -70,21 +70,22 @@ rest-splits lent h w p = go (nets (h .shape .w) (h .shape .h) (h .shape .k) 1 (h
     go (found ns q) = ended (end q) (need 11 (leb (entryCount (jobOf h w ns)) (lent .answer) && printFits (printNeed (h .nets) (entryCount (jobOf h w ns))) (lent .print))) (jobOf h w ns)
 
 -- The nets behind the head h, whose capacities stand in w₀, and the end of the text. The other two lengths that are lent have no part in it.
-pub record RestFound (s : List ℕ) (h : Head) (answer : ℕ) (print : PrintRoom) (p : Place) (w₀ w table : List ℕ) (entries : ℕ) : Type 0 where
+pub record RestFound (s : List ℕ) (h : Head) (answer : ℕ) (print : PrintRoom) (p : Place) (w₀ w table : List ℕ) : Type 0 where
   pub nets-read : List Net
   pub place : Place
   pub is : (working order : ℕ) → restIn (lentBy working order answer print) (headJob h w₀) p ≡ found (jobOf h w₀ nets-read) place
   pub count : length nets-read ≡ h .nets
+  pub entries : ℕ
   pub so-read : SoRead s (h .shape) nets-read entries w₀ w table
 
 abbrev pub RestTold : List ℕ → Head → ℕ → PrintRoom → Place → List ℕ → List ℕ → List ℕ → JobRead → Type 0
 RestTold s h answer print p w₀ w table (Refused r) = (working order : ℕ) → restIn (lentBy working order answer print) (headJob h w₀) p ≡ refusedBy r
-RestTold s h answer print p w₀ w table (accepted k entries) = (k ≡ h) × RestFound s h answer print p w₀ w table entries
+RestTold s h answer print p w₀ w table (accepted k) = (k ≡ h) × RestFound s h answer print p w₀ w table
 
 -- ---- the whole
 
 -- the job that the definitions read: its numbers, and what the working numbers and the net table hold of it
-pub record JobFound (s : List ℕ) (lent : Lent) (w table : List ℕ) (h : Head) (entries : ℕ) : Type 0 where
+pub record JobFound (s : List ℕ) (lent : Lent) (w table : List ℕ) (h : Head) : Type 0 where
   pub job : Job
   pub place : Place
   pub is : read lent s ≡ found job place
@@ -93,8 +94,7 @@ pub record JobFound (s : List ℕ) (lent : Lent) (w table : List ℕ) (h : Head)
   pub beta : h .beta ≡ job .beta
   pub gamma : h .gamma ≡ job .gamma
   pub nets : h .nets ≡ netCount job
-  pub entries-are : entries ≡ entryCount job
 
 abbrev pub JobTold : List ℕ → Lent → List ℕ → List ℕ → JobRead → Type 0
 JobTold s lent w table (Refused r) = read lent s ≡ refusedBy r
-JobTold s lent w table (accepted h entries) = JobFound s lent w table h entries
+JobTold s lent w table (accepted h) = JobFound s lent w table h

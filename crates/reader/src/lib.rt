@@ -1,27 +1,29 @@
 // The whole job text read once: a job or its one refusal. An accepted job leaves its capacities and flat demand in the working numbers, and the net table
 // has where each net's lines stand.
+use edges::Edges;
 use edges::EdgesRead;
 use head::Head;
 use head::HeadRead;
 use layout::Shape;
 use lines::Field;
 use lines::Listed;
+use pins::Pins;
 use pins::PinsRead;
 use text::Cursor;
 use text::Fault;
 use text::Refusal;
 ghost use mathlib.Core.Path.{_≡_};
 ghost use Prim.Native.Nat.{ℕ, _+_, _-_, _*_, _<_, _≤_};
-ghost use lib.ListN.{length, drop, getD};
+ghost use lib.ListN.{length, getD};
 ghost use Rattle.edges.specs.Reading.{tilesOf};
 ghost use Rattle.layout.specs.Areas.{tilesAt, chosenAt};
 ghost use Rattle.layout.specs.Parts.{Outside};
 ghost use Rattle.layout.specs.Shapes.{Shaped};
 ghost use Rattle.layout.specs.Table.{tableSize};
-ghost use Rattle.lines.specs.Told.{listIn};
+ghost use Rattle.lines.specs.Told.{listIn, mapped};
 ghost use Rattle.marks.specs.Marks.{Older};
 ghost use Rattle.model.specs.Read.{netLine, pinsLine, netLines, nets, printNeed, printFits};
-ghost use Rattle.pins.specs.Pins.{NextIn, answered, mapped, pinsMarked};
+ghost use Rattle.pins.specs.Pins.{pinsIn, pinsTold, pinsMarked};
 ghost use Rattle.text.specs.Refusals.{placeOf};
 ghost use Rattle.reader.specs.Rows.{rowPut};
 ghost use Rattle.reader.specs.Nets.{turnTold, bodyIn, NetReady, NetTold, PartCleared, CountsCleared, NetsReady, NetsTold};
@@ -45,9 +47,9 @@ pub enum PrintRoom {
     Bytes(usize),
 }
 
-// An accepted job: what its head says, and the entries of all its `edges` lines.
+// An accepted job: what its head says.
 pub enum JobRead {
-    Job(Head, usize),
+    Job(Head),
     Refused(Refusal),
 }
 
@@ -69,98 +71,73 @@ fn net_line(s: &[u8], c: Cursor, turn: usize) -> Listed
 }
 
 // The `pins` line, its pins marked by tile.
-fn net_pins(s: &[u8], at: usize, w: &mut [u32], g: Shape, stamp: u32) -> PinsRead
+fn net_pins(s: &[u8], c: Cursor, w: &mut [u32], g: Shape, stamp: u32) -> PinsRead
     requires { ⌜ Shaped g ⌝ }
-    requires { ⌜ (chosenAt g ≤ length (now w)) × (stamp ≤ 8192) × (length (now s) ≤ 1048576) × (at ≤ length (now s)) ⌝ }
+    requires { ⌜ (chosenAt g ≤ length (now w)) × (stamp ≤ 8192) × (length (now s) ≤ 1048576) × (c .at ≤ length (now s)) × (c .line < 1048576) ⌝ }
     requires { ⌜ Older stamp (tilesOf g (now w)) ⌝ }
-    ensures { λ r. ⌜ ((n : ℕ) → answered (n + 1) (now (s .entry)) (tilesOf g (now (w .exit))) r ≡ mapped (pinsMarked stamp (tilesOf g (now (w .entry)))) (pinsLine (g .w) (g .h) (g .k) (record { line = n; rest = drop at (now (s .entry)) }))) ⌝ }
-    ensures { λ r. ⌜ NextIn (length (now (s .entry))) r ⌝ }
+    ensures { λ r. ⌜ pinsTold (now (s .entry)) (tilesOf g (now (w .exit))) r ≡ mapped (pinsMarked stamp (tilesOf g (now (w .entry)))) (pinsLine (g .w) (g .h) (g .k) (placeOf (now (s .entry)) c)) ⌝ }
+    ensures { λ r. ⌜ pinsIn (length (now (s .entry))) (c .at + 5) (c .line + 1) r ⌝ }
     ensures { λ _. ⌜ Outside (tilesAt g) (g .t) (now (w .entry)) (now (w .exit)) ⌝ }
 {
     let from = layout::tiles_at(g);
     let to = layout::links_at(g);
-    pins::pins_line(s, at, &mut w[from..to], g, stamp)
+    pins::pins_line(s, c, &mut w[from..to], g, stamp)
 }
 
-// The row of net i, counted from 0, in the net table.
-fn put_row(
-    table: &mut [u32],
-    i: usize,
-    pins: usize,
-    edges: usize,
-    entries: usize,
-    first: usize,
-    count: usize,
-)
-    requires { ⌜ (i < 4096) × (tableSize ≤ length (now table)) ⌝ }
-    requires { ⌜ (pins ≤ 16777216) × (edges ≤ 16777216) × (entries ≤ 16777216) × (first ≤ 16777216) × (count ≤ 16777216) ⌝ }
-    ensures { λ _. ⌜ now (table .exit) ≡ rowPut (now (table .entry)) i pins edges entries first count ⌝ }
+// A row of the net table: of net i, counted from 0, whose layers go from `first` on in the answer list.
+pub struct Row {
+    pub i: usize,
+    pub first: usize,
+}
+
+// What the lines of a net say in its row.
+fn put_row(table: &mut [u32], row: Row, pins: Pins, edges: Edges)
+    requires { ⌜ (row .i < 4096) × (tableSize ≤ length (now table)) ⌝ }
+    requires { ⌜ (pins .from ≤ 16777216) × (edges .from ≤ 16777216) × (pins .entries ≤ 16777216) × (row .first ≤ 16777216) × (edges .entries ≤ 16777216) ⌝ }
+    ensures { λ _. ⌜ now (table .exit) ≡ rowPut (now (table .entry)) (row .i) (pins .from) (edges .from) (pins .entries) (row .first) (edges .entries) ⌝ }
 {
-    table[layout::pins_column(i)] = pins as u32;
-    table[layout::edges_column(i)] = edges as u32;
-    table[layout::entries_column(i)] = entries as u32;
-    table[layout::first_column(i)] = first as u32;
-    table[layout::count_column(i)] = count as u32;
+    let i = row.i;
+    table[layout::pins_column(i)] = pins.from as u32;
+    table[layout::edges_column(i)] = edges.from as u32;
+    table[layout::entries_column(i)] = pins.entries as u32;
+    table[layout::first_column(i)] = row.first as u32;
+    table[layout::count_column(i)] = edges.entries as u32;
 }
 
-// The `pins` and `edges` lines of net i, counted from 0, behind its `net` line. Its layers go from `first` on in the answer list.
-fn net_body(
-    s: &[u8],
-    c: Cursor,
-    w: &mut [u32],
-    g: Shape,
-    table: &mut [u32],
-    i: usize,
-    first: usize,
-) -> NetRead
+// The `pins` and `edges` lines of a net, behind its `net` line.
+fn net_body(s: &[u8], c: Cursor, w: &mut [u32], g: Shape, table: &mut [u32], row: Row) -> NetRead
     requires { ⌜ Shaped g ⌝ }
     requires { ⌜ (c .at ≤ length (now s)) × (c .line < 100000) × (length (now s) ≤ 1048576) ⌝ }
-    requires { ⌜ (tableSize ≤ length (now table)) × (first ≤ 16777216) ⌝ }
-    requires { ⌜ NetReady g i (now w) ⌝ }
-    ensures { λ r. ⌜ NetTold (now (s .entry)) g i first (c .line + 2) (now (w .entry)) (now (w .exit)) (now (table .entry)) (now (table .exit)) (bodyIn (g .w) (g .h) (g .k) (placeOf (now (s .entry)) c)) r ⌝ }
+    requires { ⌜ (tableSize ≤ length (now table)) × (row .first ≤ 16777216) ⌝ }
+    requires { ⌜ NetReady g (row .i) (now w) ⌝ }
+    ensures { λ r. ⌜ NetTold (now (s .entry)) g (row .i) (row .first) (c .line + 2) (now (w .entry)) (now (w .exit)) (now (table .entry)) (now (table .exit)) (bodyIn (g .w) (g .h) (g .k) (placeOf (now (s .entry)) c)) r ⌝ }
     ensures { λ _. ⌜ (length (now (w .exit)) ≡ length (now (w .entry))) × (length (now (table .exit)) ≡ length (now (table .entry))) ⌝ }
 {
-    let stamp = (i + 1) as u32;
-    match net_pins(s, c.at, w, g, stamp) {
-        PinsRead::Bad(f) => NetRead::Refused(Refusal::Line(f, c.line + 1)),
-        PinsRead::Line(next, entries, tiles) => {
-            match edges::edges_line(s, next, w, g, stamp, tiles) {
-                EdgesRead::Bad(f) => NetRead::Refused(Refusal::Line(f, c.line + 2)),
-                EdgesRead::Line(after, count) => {
-                    put_row(table, i, c.at + 5, next + 6, entries, first, count);
-                    NetRead::Net(
-                        Cursor {
-                            at: after,
-                            line: c.line + 2,
-                        },
-                        count,
-                    )
-                }
+    let stamp = (row.i + 1) as u32;
+    match net_pins(s, c, w, g, stamp) {
+        PinsRead::Refused(r) => NetRead::Refused(r),
+        PinsRead::Line(p, d) => match edges::edges_line(s, d, w, g, stamp, p.tiles) {
+            EdgesRead::Refused(r) => NetRead::Refused(r),
+            EdgesRead::Line(e, f) => {
+                put_row(table, row, p, e);
+                NetRead::Net(f, e.entries)
             }
-        }
+        },
     }
 }
 
-// The three lines of net i, counted from 0.
-fn read_net(
-    s: &[u8],
-    c: Cursor,
-    w: &mut [u32],
-    g: Shape,
-    table: &mut [u32],
-    i: usize,
-    first: usize,
-) -> NetRead
+// The three lines of a net.
+fn read_net(s: &[u8], c: Cursor, w: &mut [u32], g: Shape, table: &mut [u32], row: Row) -> NetRead
     requires { ⌜ Shaped g ⌝ }
     requires { ⌜ (c .at ≤ length (now s)) × (c .line < 90000) × (length (now s) ≤ 1048576) ⌝ }
-    requires { ⌜ (tableSize ≤ length (now table)) × (first ≤ 16777216) ⌝ }
-    requires { ⌜ NetReady g i (now w) ⌝ }
-    ensures { λ r. ⌜ NetTold (now (s .entry)) g i first (c .line + 3) (now (w .entry)) (now (w .exit)) (now (table .entry)) (now (table .exit)) (netLines (g .w) (g .h) (g .k) (i + 1) (placeOf (now (s .entry)) c)) r ⌝ }
+    requires { ⌜ (tableSize ≤ length (now table)) × (row .first ≤ 16777216) ⌝ }
+    requires { ⌜ NetReady g (row .i) (now w) ⌝ }
+    ensures { λ r. ⌜ NetTold (now (s .entry)) g (row .i) (row .first) (c .line + 3) (now (w .entry)) (now (w .exit)) (now (table .entry)) (now (table .exit)) (netLines (g .w) (g .h) (g .k) (row .i + 1) (placeOf (now (s .entry)) c)) r ⌝ }
     ensures { λ _. ⌜ (length (now (w .exit)) ≡ length (now (w .entry))) × (length (now (table .exit)) ≡ length (now (table .entry))) ⌝ }
 {
-    match net_line(s, c, i + 1) {
+    match net_line(s, c, row.i + 1) {
         Listed::Refused(r) => NetRead::Refused(r),
-        Listed::Next(d) => net_body(s, d, w, g, table, i, first),
+        Listed::Next(d) => net_body(s, d, w, g, table, row),
     }
 }
 
@@ -183,7 +160,8 @@ fn read_nets(
     let mut entries = 0;
     let mut i = 0;
     while i < n {
-        match read_net(s, c, w, g, table, i, entries) {
+        let row = Row { i, first: entries };
+        match read_net(s, c, w, g, table, row) {
             NetRead::Refused(r) => {
                 return NetsRead::Refused(r);
             }
@@ -252,7 +230,7 @@ fn read_rest(
         NetsRead::Refused(r) => JobRead::Refused(r),
         NetsRead::Nets(d, entries) => match read_end(s, d, h.nets, entries, answer, print) {
             Listed::Refused(r) => JobRead::Refused(r),
-            Listed::Next(_) => JobRead::Job(h, entries),
+            Listed::Next(_) => JobRead::Job(h),
         },
     }
 }

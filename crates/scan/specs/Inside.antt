@@ -2,8 +2,7 @@
 -- Assumes nothing.
 use mathlib.Core.Path.{_≡_, refl}
 use mathlib.Core.Bool.{Bool, true, false, _&&_, cond}
-use Prim.Native.Nat.{ℕ, suc, _+_, _*_, _≤_, _<_}
-use native.Mathlib.Nat.{mul-le-mul-right, suc-mul, mul-comm}
+use Prim.Native.Nat.{ℕ, _≤_, _<_}
 use native.Mathlib.Omega.{arith}
 use borrow.Author.Tests.{ltb-true, leb-true}
 use lib.Dec.{leb, ltb}
@@ -22,11 +21,3 @@ inside-is W H K x y l e = go (ltb x W) (ltb y H) (leb 1 l) (leb l K) refl refl r
     go true true false t a b c d e = absurd (false-true e)
     go true false r t a b c d e = absurd (false-true e)
     go false q r t a b c d e = absurd (false-true e)
-
--- the number of a tile inside the grid
-pub tile-below : (W H x y : ℕ) → x < W → y < H → y * W + x < W * H
-tile-below W H x y h k =
-    let p : suc y * W ≤ H * W = mul-le-mul-right W k in
-    let q : suc y * W ≡ y * W + W = suc-mul y W in
-    let r : W * H ≡ H * W = mul-comm W H in
-    omega arith

@@ -23,26 +23,26 @@ OneLine (k ∷ ks) = (eqb k 10 ≡ false) × OneLine ks
 -- the value of the line from behind the key on
 abbrev pub afterKey : ℕ → Option (List ℕ) → Result (List ℕ)
 afterKey n none = refused 2 n
-afterKey n (some u) = valueIn n (cutLine u) []
+afterKey n (some u) = valueIn 2 n (cutLine u) []
 
 -- the key may be read before the line's end is known
-pub key-law : (n : ℕ) (key t : List ℕ) → OneLine key → valueIn n (cutLine t) key ≡ afterKey n (behind key t)
+pub key-law : (n : ℕ) (key t : List ℕ) → OneLine key → valueIn 2 n (cutLine t) key ≡ afterKey n (behind key t)
 key-law n [] t h = refl
 key-law n (k ∷ ks) [] h = refl
 key-law n (k ∷ ks) (b ∷ t) h = go (eqb k b) refl (key-law n ks t (h .1))
   where
-    same : eqb k b ≡ true → (c : Cut) → valueIn n (cutStep b c) (k ∷ ks) ≡ valueIn n c ks
+    same : eqb k b ≡ true → (c : Cut) → valueIn 2 n (cutStep b c) (k ∷ ks) ≡ valueIn 2 n c ks
     same e none = refl
     same e (some c) = rw e
 
-    other : eqb k b ≡ false → (q : Bool) (c : Cut) → valueIn n (cond q (some ([], t)) (cutStep b c)) (k ∷ ks) ≡ refused 2 n
+    other : eqb k b ≡ false → (q : Bool) (c : Cut) → valueIn 2 n (cond q (some ([], t)) (cutStep b c)) (k ∷ ks) ≡ refused 2 n
     other e true c = refl
     other e false none = refl
     other e false (some c) = rw e
 
-    go : (q : Bool) → eqb k b ≡ q → valueIn n (cutLine t) ks ≡ afterKey n (behind ks t) → valueIn n (cutLine (b ∷ t)) (k ∷ ks) ≡ afterKey n (cond q (behind ks t) none)
+    go : (q : Bool) → eqb k b ≡ q → valueIn 2 n (cutLine t) ks ≡ afterKey n (behind ks t) → valueIn 2 n (cutLine (b ∷ t)) (k ∷ ks) ≡ afterKey n (cond q (behind ks t) none)
     go true e r =
-        ap (λ (q : Bool). valueIn n (cond q (some ([], t)) (cutStep b (cutLine t))) (k ∷ ks)) (ap (λ (z : ℕ). eqb z 10) (sym (eqb-true k b e)) ∙ h .0)
+        ap (λ (q : Bool). valueIn 2 n (cond q (some ([], t)) (cutStep b (cutLine t))) (k ∷ ks)) (ap (λ (z : ℕ). eqb z 10) (sym (eqb-true k b e)) ∙ h .0)
         ∙ same e (cutLine t) ∙ r
     go false e r = other e (eqb b 10) (cutLine t)
 
@@ -51,7 +51,7 @@ key-law n (k ∷ ks) (b ∷ t) h = go (eqb k b) refl (key-law n ks t (h .1))
 -- what is done with the value of a pins line
 abbrev pub pinsIn : ℕ → ℕ → ℕ → List ℕ → Reading (List Pin)
 pinsIn W H K v = do
-  ps ← form (pinEntries v)
+  ps ← form 2 (pinEntries v)
   need 3 (all (pinInside W H K) ps)
   let pins = map (pinAt W) ps
   need 5 (not (twice samePin pins))
@@ -68,7 +68,7 @@ abbrev pub onKey : ℕ → ℕ → ℕ → ℕ → Option (List ℕ) → Result 
 onKey W H K n none = refused 2 n
 onKey W H K n (some u) = judged W H K n (lineOf (threeParts number) (threeParts number) u)
 
-value-law : (W H K n : ℕ) (u : List ℕ) → next (valueIn n (cutLine u) []) (pinsIn W H K) ≡ judged W H K n (lineOf (threeParts number) (threeParts number) u)
+value-law : (W H K n : ℕ) (u : List ℕ) → next (valueIn 2 n (cutLine u) []) (pinsIn W H K) ≡ judged W H K n (lineOf (threeParts number) (threeParts number) u)
 value-law W H K n u = cut (cutLine u)
   where
     tests : (p q : Bool) (pins : List Pin) (r : List ℕ) →
@@ -79,12 +79,12 @@ value-law W H K n u = cut (cutLine u)
     tests false q pins r = refl
 
     read : (e : Option (List Triple)) (r : List ℕ) →
-        next (form e (record { line = n; rest = r })) (λ ps. _>>_ (need 3 (all (pinInside W H K) ps)) (_>>_ (need 5 (not (twice samePin (map (pinAt W) ps)))) (give (map (pinAt W) ps))))
+        next (form 2 e (record { line = n; rest = r })) (λ ps. _>>_ (need 3 (all (pinInside W H K) ps)) (_>>_ (need 5 (not (twice samePin (map (pinAt W) ps)))) (give (map (pinAt W) ps))))
         ≡ judged W H K n (withRest e r)
     read none r = refl
     read (some ps) r = tests (all (pinInside W H K) ps) (twice samePin (map (pinAt W) ps)) (map (pinAt W) ps) r
 
-    cut : (c : Cut) → next (valueIn n c []) (pinsIn W H K) ≡ judged W H K n (lineBy (threeParts number) (threeParts number) c)
+    cut : (c : Cut) → next (valueIn 2 n c []) (pinsIn W H K) ≡ judged W H K n (lineBy (threeParts number) (threeParts number) c)
     cut none = refl
     cut (some c) = read (pinEntries (c .0)) (c .1) ∙ ap (λ (e : Option (List Triple)). judged W H K n (withRest e (c .1))) (sym (first-all (threeParts number) (c .0)))
 

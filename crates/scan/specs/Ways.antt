@@ -89,14 +89,14 @@ edges-some (b ∷ t) h = rw (ne-eqb b 10 h) (go (cutLine t))
 
 abbrev pub edgesIn : ℕ → ℕ → List ℕ → Reading (List Triple)
 edgesIn W H v = do
-  es ← form (edgeEntries v)
+  es ← form 2 (edgeEntries v)
   need 3 (all (edgeInside W H) es)
   give es
 
 -- the first tests of the definitions' edges line: its form and its range
 unfoldable pub edgesRanged : ℕ → ℕ → Reading (List Triple)
 edgesRanged W H = do
-  v ← line "edges"
+  v ← line 2 "edges"
   edgesIn W H v
 
 abbrev pub ranged : ℕ → ℕ → ℕ → Lined → Result (List Triple)
@@ -119,11 +119,11 @@ edges-law W H n t =
     tests false es r = refl
 
     read : (e : Option (List Triple)) (r : List ℕ) →
-        next (form e (record { line = suc n; rest = r })) (λ es. _>>_ (need 3 (all (edgeInside W H) es)) (give es)) ≡ ranged W H (suc n) (withRest e r)
+        next (form 2 e (record { line = suc n; rest = r })) (λ es. _>>_ (need 3 (all (edgeInside W H) es)) (give es)) ≡ ranged W H (suc n) (withRest e r)
     read none r = refl
     read (some es) r = tests (all (edgeInside W H) es) es r
 
-    cut : (c : Cut) → next (valueIn (suc n) c []) (edgesIn W H) ≡ ranged W H (suc n) (edgesCut c)
+    cut : (c : Cut) → next (valueIn 2 (suc n) c []) (edgesIn W H) ≡ ranged W H (suc n) (edgesCut c)
     cut none = refl
     cut (some c) = read (edgeEntries (c .0)) (c .1)
 

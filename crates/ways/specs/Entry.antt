@@ -9,11 +9,11 @@ use native.Mathlib.Nat.{div-eq-of-lt-le}
 use native.Mathlib.Omega.{arith}
 use borrow.Author.Tests.{ltb-true, eq-eqb, ne-eqb}
 use lib.Dec.{eqb, ltb}
-use Rattle.layout.specs.Shapes.{Shaped, wayOf}
+use Rattle.layout.specs.Shapes.{Shaped, tile-below, wayOf}
 use Rattle.layout.specs.declared.Shape.{Shape}
 use Rattle.model.specs.Grid.{tile, eastCount, eastEdge, northEdge}
 use Rattle.model.specs.Read.{Triple, edgeInside, edgeAt}
-use Rattle.scan.specs.Inside.{tile-below, false-true}
+use Rattle.scan.specs.Inside.{false-true}
 use Rattle.theory.specs.congestion.Sums.{lt-or-ge}
 use Rattle.theory.specs.links.Edges.{lo-is, hi-is}
 use Rattle.theory.specs.links.Reach.{loOf, hiOf}

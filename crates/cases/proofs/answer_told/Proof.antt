@@ -6,7 +6,7 @@ use Rattle.cases.proofs.answer_told.Statement.{statement}
 use Rattle.cases.proofs.answer_told.Tie as tie
 
 returns : tie.Need-returns
-returns c = told-accepted (c .before .before .args .r) (c .enum-told .given .0 .0) (c .enum-told .given .0 .1 .0) (c .enum-told .given .1)
+returns c = told-accepted (c .before .before .args .r) (c .enum-told .given .0 .0) (c .enum-told .given .1)
 
 returns-2 : tie.Need-returns-2
 returns-2 c =

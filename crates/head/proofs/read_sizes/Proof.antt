@@ -1,72 +1,70 @@
--- `read_sizes` meets its contract.
+-- `read_sizes` meets its contract: each line is read at the place behind the one before, and the first refusal decides.
 -- Assumes nothing.
-use mathlib.Core.Path.{_≡_, sym, _∙_}
+use mathlib.Core.Path.{_≡_, refl, sym}
 use Prim.Native.Nat.{_+_}
 use Rattle.head.specs.Reads.{sizesIn}
-use Rattle.head.proofs.Fields.{not-inside, after-one, after-two}
+use Rattle.head.proofs.Fields.{Got, not-got, got}
 use native.Mathlib.Omega.{arith}
 use borrow.Author.Needs.{needs}
 use Rattle.head.proofs.read_sizes.Statement.{statement}
 use Rattle.head.proofs.read_sizes.Tie as tie
 
+-- the width is read
+module _ (c : tie.After-w) where
+  abbrev z : tie.Start
+  z = c .before .before .before .before .before
+
+  width : Got "width" 1 64 (z .args .s .now) (z .args .c) (c .w .given .0 .0) (c .w .given .0 .1 .0)
+  width = let r = c .before .before .ranged in got "width" 1 64 (z .args .s .now) (z .args .c) (r .result) (r .ensures) (c .w .given .0 .0) (c .w .given .0 .1 .0) (c .w .given .1)
+
+-- and then the height
+module _ (c : tie.After-h) where
+  abbrev w : tie.After-w
+  w = c .before .before .before .before .before
+
+  height : Got "height" 1 64 (z w .args .s .now) (w .w .given .0 .1 .0) (c .h .given .0 .0) (c .h .given .0 .1 .0)
+  height = let r = c .before .before .ranged2 in got "height" 1 64 (z w .args .s .now) (w .w .given .0 .1 .0) (r .result) (r .ensures) (c .h .given .0 .0) (c .h .given .0 .1 .0) (c .h .given .1)
+
+read-stack-requires : tie.Need-read-stack-requires
+read-stack-requires c κs =
+    let h = c .before in
+    let x = width (w h) in
+    let y = height h in
+    ((y .after .place, omega (arith, y .after .lines, x .after .lines, z (w h) .pre .1)), (x .least, x .most, y .least, y .most))
+
 returns : tie.Need-returns
 unfolding sizesIn
 returns c =
-    let c3 = c .before .before .before in
-    let c4 = c3 .before in
-    let a = c4 .before .before .before .before .before .args in
-    let t = c4 .three-lines in
+    let a = c .before .before .before .before .before .before .args in
+    let r = c .before .before .before .ranged in
     let g = c .before .r .given in
-    (sym (rw (not-inside "width" 1 64 (a .s .now) (a .c) (t .result .first) (t .ensures .one) (g .0 .0) (sym (c3 .in-range .ensures) ∙ g .1))), tt)
+    (sym (rw (not-got "width" 1 64 (a .s .now) (a .c) (r .result) (r .ensures) (g .0 .0) (g .1))), tt)
 
 returns-2 : tie.Need-returns-2
 unfolding sizesIn
 returns-2 c =
-    let c3 = c .before .before .before in
-    let c5 = c3 .before .before in
-    let c7 = c5 .before .before in
-    let c8 = c7 .before in
-    let a = c8 .before .before .before .before .before .args in
-    let t = c8 .three-lines in
-    let g = c5 .w .given in
-    let i = c .before .r2 .given in
-    let x = after-one "width" "height" "layers" 1 64 (a .s .now) (a .c) (t .result) (t .ensures) (g .0 .0) (g .0 .1 .0) (sym (c7 .in-range .ensures) ∙ g .1) in
-    (sym (rw (x .got .read, not-inside "height" 1 64 (a .s .now) (g .0 .1 .0) (t .result .second) (x .next) (i .0 .0) (sym (c3 .in-range2 .ensures) ∙ i .1))), tt)
+    let w = c .before .before .before .before .before .before in
+    let r = c .before .before .before .ranged2 in
+    let g = c .before .r2 .given in
+    (sym (rw (width w .read, not-got "height" 1 64 (z w .args .s .now) (w .w .given .0 .1 .0) (r .result) (r .ensures) (g .0 .0) (g .1))), tt)
 
 returns-3 : tie.Need-returns-3
 unfolding sizesIn
 returns-3 c =
-    let c2 = c .before .before in
-    let c4 = c2 .before .before in
-    let c6 = c4 .before .before in
-    let c8 = c6 .before .before in
-    let c9 = c8 .before in
-    let a = c9 .before .before .before .before .before .args in
-    let t = c9 .three-lines in
-    let g = c6 .w .given in
-    let i = c2 .h .given in
-    let x = after-one "width" "height" "layers" 1 64 (a .s .now) (a .c) (t .result) (t .ensures) (g .0 .0) (g .0 .1 .0) (sym (c8 .in-range .ensures) ∙ g .1) in
-    let y = after-two "width" "height" "layers" 1 64 (a .s .now) (a .c) (t .result) (g .0 .0) (g .0 .1 .0) x (i .0 .0) (i .0 .1 .0) (sym (c4 .in-range2 .ensures) ∙ i .1) in
-    let k = c .stack-of .ensures (a .s .now) (i .0 .1 .0) (y .next) in
-    let l : a .c .line + 3 ≡ i .0 .1 .0 .line + 1 = omega (arith, x .got .after .lines, y .got .after .lines) in
-    (rw (x .got .read, y .got .read) (k .told), rw l (k .holds))
+    let h = c .before .before in
+    let x = width (w h) in
+    let y = height h in
+    let k = c .read-stack in
+    let l : z (w h) .args .c .line + 3 ≡ h .h .given .0 .1 .0 .line + 1 = omega (arith, x .after .lines, y .after .lines) in
+    (rw (x .read, y .read) (k .ensures .0), rw l (k .ensures .1))
 
 pub read-sizes-spec : {M : Type 1} → statement M
 read-sizes-spec =
     tie.close
     (tie.spec
-    (λ c. search needs) (λ c. search needs) (λ c. search needs) (λ c κs. search needs) (λ c κs. search needs) (λ c. search needs) (λ c. search needs) (λ c κs. search needs)
+    (λ c. search needs)
+    (λ c κs. let r = c .before .before .pre in (r .0, omega (arith, r .1), refl))
+    (λ c. search needs) (λ c. search needs) (λ c. search needs)
+    (λ c κs. let w = c .before .before in (width w .after .place, omega (arith, width w .after .lines, z w .pre .1), refl))
     (λ c. search needs) (λ c. search needs)
-    (λ c κs. let c1 = c .before in
-    let c3 = c1 .before .before in
-    let c5 = c3 .before .before in
-    let c7 = c5 .before .before in
-    let c8 = c7 .before in
-    let a = c8 .before .before .before .before .before .args in
-    let t = c8 .three-lines in
-    let g = c5 .w .given in
-    let i = c1 .h .given in
-    let x = after-one "width" "height" "layers" 1 64 (a .s .now) (a .c) (t .result) (t .ensures) (g .0 .0) (g .0 .1 .0) (sym (c7 .in-range .ensures) ∙ g .1) in
-    let y = after-two "width" "height" "layers" 1 64 (a .s .now) (a .c) (t .result) (g .0 .0) (g .0 .1 .0) x (i .0 .0) (i .0 .1 .0) (sym (c3 .in-range2 .ensures) ∙ i .1) in
-    (x .got .least, x .got .most, y .got .least, y .got .most))
-    returns returns-2 returns-3)
+    read-stack-requires returns returns-2 returns-3)

@@ -15,16 +15,13 @@ list-spec =
     (tie.spec
     (λ c κs. search needs) (λ c. search needs)
     (λ c. let c4 = c .before .before .before .before in
-    let c7 = c4 .before .before .before in
-    let a = c7 .args in
+    let a = c4 .before .before .before .before .args in
     let e = c .before .before .entries in
-    (e .ensures .0 ∙ ap (finish (a .k) (a .line) true (a .w .now) (a .first)) (sym (line-some (a .s .now) (a .at) (a .count) (c4 .if1 .taken))), e .ensures .1))
-    (λ c. let a = c .before .before .before .before .args in
-    (sym (rw (line-out (a .s .now) (a .at) (a .count) (c .before .if1 .left) (c .if2 .taken))), (tt, refl)))
+    (e .ensures .0 ∙ ap (finish (a .to .k) (a .c .line) true (a .w .now) (a .to .first)) (sym (line-some (a .s .now) (a .c .at) (a .to .count) (c4 .if1 .taken))), e .ensures .1))
+    (λ c. let a = c .before .before .before .before .before .args in
+    (sym (rw (line-out (a .s .now) (a .c .at) (a .to .count) (c .before .if1 .left) (c .if2 .taken))), (tt, refl)))
     (λ c. search needs) (λ c. search needs)
-    (λ c. let c6 = c .before .before .before .before .before .before in
-    let a = c6 .args in
-    (sym (rw (line-empty (a .s .now) (a .at) (a .count) (c .before .before .before .if1 .left) (c .if3 .taken))), (record { place = omega arith; lines = refl }, refl)))
-    (λ c. let c6 = c .before .before .before .before .before .before in
-    let a = c6 .args in
-    (sym (rw (line-other (a .s .now) (a .at) (a .count) (c .before .before .before .if1 .left) (c .if3 .left))), (tt, refl))))
+    (λ c. let a = c .before .before .before .before .before .before .before .args in
+    (sym (rw (line-empty (a .s .now) (a .c .at) (a .to .count) (c .before .before .before .if1 .left) (c .if3 .taken))), (record { place = omega arith; lines = refl }, refl)))
+    (λ c. let a = c .before .before .before .before .before .before .before .args in
+    (sym (rw (line-other (a .s .now) (a .c .at) (a .to .count) (c .before .before .before .if1 .left) (c .if3 .left))), (tt, refl))))

@@ -1,40 +1,54 @@
--- `number_line` meets its contract.
+-- `number_line` meets its contract: the line is opened, and a number that byte 10 ends is read from behind the key on.
 -- Assumes nothing.
-use mathlib.Core.Path.{refl, sym, ap, _∙_}
-use Prim.Native.Nat.{_+_}
-use lib.ListN.{length}
-use borrow.Author.Tests.{not-true, not-false}
-use Rattle.lines.proofs.Keys.{number-none, number-key}
-use Rattle.lines.proofs.Places.{numeralTold, ended-within}
+use mathlib.Core.Path.{sym, ap, _∙_}
 use native.Mathlib.Omega.{arith}
 use borrow.Author.Needs.{needs}
+use borrow.Author.Tests.{not-true, not-false}
+use Rattle.lines.specs.declared.Opened.{Opened}
+use Rattle.lines.proofs.Keys.{number-none, number-key}
+use Rattle.lines.proofs.Places.{numeralTold, ended-within}
 use Rattle.lines.proofs.number_line.Statement.{statement}
 use Rattle.lines.proofs.number_line.Tie as tie
+
+returns : tie.Need-returns
+returns c =
+    let o = c .before .before .open-line in
+    let z = c .before .before .before .before .before in
+    (sym (number-none (z .args .s .now) (z .args .c) (z .args .key .now) (z .pre .2) (o .result) (o .ensures) (not-true _ (c .if1 .taken))), tt)
+
+-- what stands behind the key
+module _ (c : tie.After-ended) where
+  abbrev e : tie.Else1
+  e = c .before
+
+  abbrev o : tie.After-open-line
+  o = e .before .before
+
+  abbrev z : tie.Start
+  z = o .before .before .before
+
+returns-2 : tie.Need-returns-2
+returns-2 c =
+    let n = c .before .before in
+    let a = z n .args in
+    let r = o n .open-line in (
+      sym (number-key (a .s .now) (a .c) (a .key .now) (z n .pre .2) (r .result) (r .ensures) (not-false _ (e n .if1 .left))
+          ∙ ap (numeralTold (r .result .place .line) (a .s .now)) (sym (n .ended .ensures) ∙ c .enum-told .given .1)),
+      tt,
+    )
+
+returns-3 : tie.Need-returns-3
+returns-3 c =
+    let n = c .before .before .before in
+    let a = z n .args in
+    let r = o n .open-line in
+    let g = c .before .v .given in
+    let t = sym (n .ended .ensures) ∙ g .1 in (
+      sym (number-key (a .s .now) (a .c) (a .key .now) (z n .pre .2) (r .result) (r .ensures) (not-false _ (e n .if1 .left)) ∙ ap (numeralTold (r .result .place .line) (a .s .now)) t),
+      record { place = ended-within (a .s .now) (r .result .place .at) 10 (g .0 .0) (g .0 .1 .0) (omega arith) t; lines = ap (λ (x : Opened). x .place .line) (r .ensures) },
+    )
 
 pub number-line-spec : {M : Type 1} → statement M
 number-line-spec =
     tie.close
-    (tie.spec
-    (λ c. search needs) (λ c κs. search needs)
-    (λ c. let c5 = c .before .before .before .before .before in
-    let a = c5 .args in
-    (sym (number-none (a .key .now) (a .s .now) (a .c .at) (a .c .line) (c5 .pre .2) (sym (c .before .key-at .ensures) ∙ not-true _ (c .if1 .taken))), tt))
-    (λ c. search needs) (λ c κs. search needs) (λ c. search needs) (λ c. search needs)
-    (λ c. let c4 = c .before .before .before .before in
-    let c5 = c4 .before in
-    let c9 = c5 .before .before .before .before in
-    let a = c9 .args in (
-      sym (number-key (a .key .now) (a .s .now) (a .c .at) (a .c .line) (c9 .pre .2) (sym (c5 .key-at .ensures) ∙ not-false _ (c4 .if1 .left))
-          ∙ ap (numeralTold (a .c .line + 1) (a .s .now)) (sym (c .before .before .ended .ensures) ∙ c .enum-told .given .1)),
-      tt,
-    ))
-    (λ c. let c3 = c .before .before .before in
-    let c5 = c3 .before .before in
-    let c6 = c5 .before in
-    let c10 = c6 .before .before .before .before in
-    let a = c10 .args in
-    let g = c .before .v .given in (
-      sym (number-key (a .key .now) (a .s .now) (a .c .at) (a .c .line) (c10 .pre .2) (sym (c6 .key-at .ensures) ∙ not-false _ (c5 .if1 .left))
-          ∙ ap (numeralTold (a .c .line + 1) (a .s .now)) (sym (c3 .ended .ensures) ∙ g .1)),
-      record { place = ended-within (a .s .now) (a .c .at + length (a .key .now)) 10 (g .0 .0) (g .0 .1 .0) (omega arith) (sym (c3 .ended .ensures) ∙ g .1); lines = refl },
-    )))
+    (tie.spec (λ c κs. search needs) returns (λ c κs. search needs) (λ c. search needs) (λ c. search needs) returns-2 returns-3)

@@ -2,7 +2,7 @@
 -- Assumes nothing.
 use mathlib.Core.Path.{sym, _∙_}
 use borrow.Author.Needs.{needs}
-use Rattle.pins.proofs.Entries.{seen-twice, seen-fresh, seen-known}
+use Rattle.pins.proofs.Entry.{seen-twice, seen-fresh, seen-known}
 use Rattle.pins.proofs.mark_pin.Statement.{statement}
 use Rattle.pins.proofs.mark_pin.Tie as tie
 

@@ -9,7 +9,7 @@ use borrow.Author.Tests.{not-true, not-false}
 use Rattle.model.specs.Read.{pinInside}
 use Rattle.scan.specs.Inside.{inside-is}
 use Rattle.scan.specs.Pins.{triple}
-use Rattle.pins.proofs.Entries.{put-outside, put-inside}
+use Rattle.pins.proofs.Entry.{put-outside, put-inside}
 use Rattle.pins.proofs.put_pin.Statement.{statement}
 use Rattle.pins.proofs.put_pin.Tie as tie
 

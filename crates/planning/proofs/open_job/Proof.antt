@@ -15,7 +15,7 @@ flat-capacities-requires c κs =
     let x = h .before .before .before .before .before .before .before .before .before .before .before .before .args in
     let f = h .h .given in
     let k = subst (JobTold (x .s .now) (lentBy (length (x .w .now)) (x .order) (x .answer) (x .print)) (y .last .1 .0) (y .last .1 .1 .0)) (f .1) (y .ensures .0) in
-    (shaped (x .s .now) (lentBy (length (x .w .now)) (x .order) (x .answer) (x .print)) (y .last .1 .0) (y .last .1 .1 .0) (f .0 .0) (f .0 .1 .0) k, (flat-room (x .s .now) (lentBy (length (x .w .now)) (x .order) (x .answer) (x .print)) (y .last .1 .0) (y .last .1 .1 .0) (f .0 .0) (f .0 .1 .0) k, small (x .s .now) (lentBy (length (x .w .now)) (x .order) (x .answer) (x .print)) (y .last .1 .0) (y .last .1 .1 .0) (f .0 .0) (f .0 .1 .0) k))
+    (shaped (x .s .now) (lentBy (length (x .w .now)) (x .order) (x .answer) (x .print)) (y .last .1 .0) (y .last .1 .1 .0) (f .0 .0) k, (flat-room (x .s .now) (lentBy (length (x .w .now)) (x .order) (x .answer) (x .print)) (y .last .1 .0) (y .last .1 .1 .0) (f .0 .0) k, small (x .s .now) (lentBy (length (x .w .now)) (x .order) (x .answer) (x .print)) (y .last .1 .0) (y .last .1 .1 .0) (f .0 .0) k))
 
 score-nets-requires : tie.Need-score-nets-requires
 score-nets-requires c κs =
@@ -26,10 +26,10 @@ score-nets-requires c κs =
     let k = subst (JobTold (x .s .now) (lentBy (length (x .w .now)) (x .order) (x .answer) (x .print)) (y .last .1 .0) (y .last .1 .1 .0)) (f .1) (y .ensures .0) in
     let flat = c .before .before .before .before .before .flat-capacities in
     let a = c .before .weights-of in (
-      shaped (x .s .now) (lentBy (length (x .w .now)) (x .order) (x .answer) (x .print)) (y .last .1 .0) (y .last .1 .1 .0) (f .0 .0) (f .0 .1 .0) k,
+      shaped (x .s .now) (lentBy (length (x .w .now)) (x .order) (x .answer) (x .print)) (y .last .1 .0) (y .last .1 .1 .0) (f .0 .0) k,
       (
-        still-room (x .s .now) (lentBy (length (x .w .now)) (x .order) (x .answer) (x .print)) (y .last .1 .0) (y .last .1 .1 .0) (f .0 .0) (f .0 .1 .0) k (flat .last .0) (flat .ensures .0) (flat .ensures .1),
-        some-job (x .s .now) (lentBy (length (x .w .now)) (x .order) (x .answer) (x .print)) (y .last .1 .0) (y .last .1 .1 .0) (f .0 .0) (f .0 .1 .0) k (flat .last .0) (flat .ensures .0) (flat .ensures .1) (a .result) (a .ensures .0) (a .ensures .1) (a .ensures .2),
+        still-room (x .s .now) (lentBy (length (x .w .now)) (x .order) (x .answer) (x .print)) (y .last .1 .0) (y .last .1 .1 .0) (f .0 .0) k (flat .last .0) (flat .ensures .0) (flat .ensures .1),
+        some-job (x .s .now) (lentBy (length (x .w .now)) (x .order) (x .answer) (x .print)) (y .last .1 .0) (y .last .1 .1 .0) (f .0 .0) k (flat .last .0) (flat .ensures .0) (flat .ensures .1) (a .result) (a .ensures .0) (a .ensures .1) (a .ensures .2),
       ),
     )
 
@@ -51,7 +51,7 @@ returns-2 c =
     let x = h .before .before .before .before .before .before .before .before .before .before .before .before .args in
     let f = h .h .given in
     let k = subst (JobTold (x .s .now) (lentBy (length (x .w .now)) (x .order) (x .answer) (x .print)) (y .last .1 .0) (y .last .1 .1 .0)) (f .1) (y .ensures .0) in
-    opened (x .s .now) (lentBy (length (x .w .now)) (x .order) (x .answer) (x .print)) (y .last .1 .0) (y .last .1 .1 .0) (f .0 .0) (f .0 .1 .0) k (flat .last .0) (flat .ensures .0) (flat .ensures .1) (a .result) (a .ensures .0) (a .ensures .1) (a .ensures .2) (scores .score-nets .last .1 .1 .1 .1 .0) (scores .score-nets .ensures)
+    opened (x .s .now) (lentBy (length (x .w .now)) (x .order) (x .answer) (x .print)) (y .last .1 .0) (y .last .1 .1 .0) (f .0 .0) k (flat .last .0) (flat .ensures .0) (flat .ensures .1) (a .result) (a .ensures .0) (a .ensures .1) (a .ensures .2) (scores .score-nets .last .1 .1 .1 .1 .0) (scores .score-nets .ensures)
 
 pub open-job-spec : {M : Type 1} → statement M
 open-job-spec =

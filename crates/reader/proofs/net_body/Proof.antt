@@ -1,115 +1,163 @@
--- `net_body` meets its contract.
+-- `net_body` meets its contract: the `pins` line is read, and behind it the `edges` line; where both are fine the net is found, and its row says where they
+-- stand (`Body.antt`).
 -- Assumes nothing.
+use mathlib.Core.List.{List, []}
 use mathlib.Core.Path.{_≡_, refl, sym, ap, _∙_, subst}
-use Prim.Native.Nat.{_+_}
+use Prim.Native.Nat.{ℕ, _+_}
 use native.Mathlib.Omega.{arith}
 use lib.ListN.{length}
 use borrow.Author.Needs.{needs}
-use Rattle.edges.specs.Line.{LineRead}
-use Rattle.edges.specs.Reading.{tilesOf}
+use Rattle.edges.specs.Line.{LineRead, LineFound}
+use Rattle.edges.specs.Pins.{PinsFound}
+use Rattle.edges.specs.Reading.{tilesOf, Reading}
+use Rattle.edges.specs.declared.Edges.{Edges}
 use Rattle.edges.specs.declared.EdgesRead.{EdgesRead}
-use Rattle.pins.specs.Pins.{answered}
-use Rattle.reader.specs.Rows.{rowPut}
-use Rattle.reader.proofs.Body.{next-in, pins-bad, fine, still-few, still-room, begun, reading, edges-bad, pins-number, edges-number, body-found}
+use Rattle.layout.specs.declared.Shape.{Shape}
+use Rattle.lines.specs.Told.{After, mapped}
+use Rattle.model.specs.Read.{pinsLine}
+use Rattle.pins.specs.Pins.{pinsTold, pinsMarked}
+use Rattle.pins.specs.declared.Pins.{Pins}
+use Rattle.pins.specs.declared.PinsRead.the-variants.{Line as PinsLine}
+use Rattle.text.specs.Refusals.{placeOf}
+use Rattle.text.specs.declared.Cursor.{Cursor}
+use Rattle.reader.proofs.Body.{line-in, pins-bad, fine, still-few, still-room, begun, reading, edges-bad, pins-number, edges-number, body-found}
 use Rattle.reader.proofs.net_body.Statement.{statement}
 use Rattle.reader.proofs.net_body.Tie as tie
 
 returns : tie.Need-returns
 returns c =
-    let z = c .before .before .before .before .before .before .before .before .before .before .before in
+    let y = c .before .before .before .before .before in
+    let z = y .before .before .before .before .before .before in
     let x = z .args in
-    let r = z .pre in
-    let p = c .before .before .before .before .before .before .net-pins in
-    let f = c .before .before .f .given in (
-      pins-bad (x .s .now) (x .c) (x .g) (r .0) (x .i) (x .w .now) (r .1 .1 .1) (tilesOf (x .g) (p .last .1 .1 .0)) (p .result) (p .ensures .0) (f .0 .0) (f .1),
-      (p .ensures .1 .1 .long, refl),
+    let g = c .before .r .given in (
+      pins-bad (x .s .now) (x .c) (x .g) (z .pre .0) (x .row .i) (x .w .now) (z .pre .1 .1 .1) (tilesOf (x .g) (y .net-pins .last .1 .1 .0)) (y .net-pins .result) (y .net-pins .ensures .0) (g .0 .0) (g .1),
+      (y .net-pins .ensures .1 .1 .long, refl),
     )
+
+-- ---- the `pins` line is fine
+
+module _ (c : tie.After-p) where
+  abbrev y : tie.After-net-pins
+  y = c .before .before .before .before
+
+  abbrev z : tie.Start
+  z = y .before .before .before .before .before .before
+
+  abbrev s : List ℕ
+  s = z .args .s .now
+
+  abbrev at : Cursor
+  at = z .args .c
+
+  abbrev g : Shape
+  g = z .args .g
+
+  abbrev i : ℕ
+  i = z .args .row .i
+
+  abbrev w₀ : List ℕ
+  w₀ = z .args .w .now
+
+  abbrev w₁ : List ℕ
+  w₁ = y .net-pins .last .1 .1 .0
+
+  abbrev p : Pins
+  p = c .p .given .0 .0
+
+  abbrev d : Cursor
+  d = c .p .given .0 .1 .0
+
+  told : pinsTold s (tilesOf g w₁) (PinsLine p d) ≡ mapped (pinsMarked (i + 1) (tilesOf g w₀)) (pinsLine (g .w) (g .h) (g .k) (placeOf s at))
+  told = ap (pinsTold s (tilesOf g w₁)) (sym (c .p .given .1)) ∙ y .net-pins .ensures .0
+
+  stands : (p .from ≡ at .at + 5) × After (length s) (at .line + 1) d
+  stands = line-in (length s) (at .at + 5) (at .line + 1) (y .net-pins .result) p d (c .p .given .1) (y .net-pins .ensures .1 .0)
+
+  abbrev found-pins : PinsFound g (i + 1) s at (tilesOf g w₀) (tilesOf g w₁) p d
+  found-pins = fine s at g (z .pre .0) i w₀ (z .pre .1 .1 .1) w₁ p d told (y .net-pins .ensures .1 .1) stands
+
+  started : Reading g (i + 1) (found-pins .pins) [] (p .tiles) w₀ w₁
+  started = reading s at g (z .pre .0) i w₀ (z .pre .1 .1 .1) w₁ p d told (y .net-pins .ensures .1 .1) stands
 
 edges-line-requires : tie.Need-edges-line-requires
 edges-line-requires c κs =
-    let z = c .before .before .before .before .before .before .before .before .before .before .before in
-    let x = z .args in
-    let r = z .pre in
-    let p = c .before .before .before .before .before .before .net-pins in
-    let f = c .before .before .next .given in
-    let told = ap (answered (x .c .line + 1) (x .s .now) (tilesOf (x .g) (p .last .1 .1 .0))) (sym (f .1)) ∙ p .ensures .0 (x .c .line) in (
+    let q = c .before .before in
+    let r = z q .pre in (
       r .0,
       (
         (
-          still-room (x .s .now) (x .c) (x .g) (r .0) (x .i) (x .w .now) (r .1 .1 .1) (p .last .1 .1 .0) (f .0 .0) (f .0 .1 .0) (f .0 .1 .1 .0) told (p .ensures .1 .1),
+          still-room (s q) (at q) (g q) (r .0) (i q) (w₀ q) (r .1 .1 .1) (w₁ q) (p q) (d q) (told q) (y q .net-pins .ensures .1 .1) (stands q),
           omega (arith, r .1 .1 .1 .turn),
           r .1 .0 .2,
-          next-in (length (x .s .now)) (p .result) (f .0 .0) (f .0 .1 .0) (f .0 .1 .1 .0) (f .1) (p .ensures .1 .0),
+          stands q .1 .place,
+          omega (arith, stands q .1 .lines, r .1 .0 .1),
         ),
         (
-          still-few (x .s .now) (x .c) (x .g) (r .0) (x .i) (x .w .now) (r .1 .1 .1) (p .last .1 .1 .0) (f .0 .0) (f .0 .1 .0) (f .0 .1 .1 .0) told (p .ensures .1 .1),
-          begun (x .s .now) (x .c) (x .g) (r .0) (x .i) (x .w .now) (r .1 .1 .1) (p .last .1 .1 .0) (f .0 .0) (f .0 .1 .0) (f .0 .1 .1 .0) told (p .ensures .1 .1),
+          still-few (s q) (at q) (g q) (r .0) (i q) (w₀ q) (r .1 .1 .1) (w₁ q) (p q) (d q) (told q) (y q .net-pins .ensures .1 .1) (stands q),
+          begun (s q) (at q) (g q) (r .0) (i q) (w₀ q) (r .1 .1 .1) (w₁ q) (p q) (d q) (told q) (y q .net-pins .ensures .1 .1) (stands q),
         ),
       ),
     )
 
+-- the answer to the `edges` line
+module _ (c : tie.After-edges-line) where
+  abbrev q : tie.After-p
+  q = c .before .before .before
+
+  read-edges : LineRead (g q) (i q + 1) (s q) (d q) (found-pins q .pins) (w₀ q) (c .edges-line .last .1 .1 .0) (c .edges-line .result)
+  read-edges = c .edges-line .ensures .0 (found-pins q .pins) (w₀ q) (found-pins q .fit .some-pin) (started q)
+
 returns-2 : tie.Need-returns-2
 returns-2 c =
-    let z = c .before .before .before .before .before .before .before .before .before .before .before .before .before .before .before .before .before .before in
-    let x = z .args in
-    let r = z .pre in
-    let p = c .before .before .before .before .before .before .before .before .before .before .before .before .before .net-pins in
-    let f = c .before .before .before .before .before .before .before .before .before .next .given in
-    let e = c .before .before .before .before .before .before .edges-line in
-    let h = c .before .before .f2 .given in
-    let told = ap (answered (x .c .line + 1) (x .s .now) (tilesOf (x .g) (p .last .1 .1 .0))) (sym (f .1)) ∙ p .ensures .0 (x .c .line) in
-    let k = fine (x .s .now) (x .c) (x .g) (r .0) (x .i) (x .w .now) (r .1 .1 .1) (p .last .1 .1 .0) (f .0 .0) (f .0 .1 .0) (f .0 .1 .1 .0) told (p .ensures .1 .1) in (
-      edges-bad (x .s .now) (x .c) (x .g) (r .0) (x .i) (x .w .now) (r .1 .1 .1) (p .last .1 .1 .0) (f .0 .0) (f .0 .1 .0) (f .0 .1 .1 .0) told (p .ensures .1 .1) (e .last .1 .1 .0) (e .result)
-          (e .ensures .0 (k .pins) (x .w .now) (k .fit .some-pin)
-          (reading (x .s .now) (x .c) (x .g) (r .0) (x .i) (x .w .now) (r .1 .1 .1) (p .last .1 .1 .0) (f .0 .0) (f .0 .1 .0) (f .0 .1 .1 .0) told (p .ensures .1 .1)))
-          (h .0 .0) (h .1),
-      (e .ensures .1 ∙ p .ensures .1 .1 .long, refl),
+    let l = c .before .before .before .before .before in
+    let k = q l in
+    let h = c .before .r2 .given in (
+      edges-bad (s k) (at k) (g k) (z k .pre .0) (i k) (w₀ k) (z k .pre .1 .1 .1) (w₁ k) (p k) (d k) (told k) (y k .net-pins .ensures .1 .1) (stands k) (l .edges-line .last .1 .1 .0) (l .edges-line .result) (read-edges l) (h .0 .0) (h .1),
+      (l .edges-line .ensures .1 ∙ y k .net-pins .ensures .1 .1 .long, refl),
     )
+
+-- ---- both lines are fine
+
+module _ (c : tie.After-e) where
+  abbrev l : tie.After-edges-line
+  l = c .before .before .before .before
+
+  abbrev w₂ : List ℕ
+  w₂ = l .edges-line .last .1 .1 .0
+
+  abbrev e : Edges
+  e = c .e .given .0 .0
+
+  abbrev f : Cursor
+  f = c .e .given .0 .1 .0
+
+  found-edges : LineFound (g (q l)) (i (q l) + 1) (s (q l)) (d (q l)) (found-pins (q l) .pins) (w₀ (q l)) w₂ e f
+  found-edges = subst (λ (v : EdgesRead). LineRead (g (q l)) (i (q l) + 1) (s (q l)) (d (q l)) (found-pins (q l) .pins) (w₀ (q l)) w₂ v) (c .e .given .1) (read-edges l)
 
 put-row-requires : tie.Need-put-row-requires
 put-row-requires c κs =
-    let z = c .before .before .before .before .before .before .before .before .before .before .before .before .before .before .before .before .before .before .before in
-    let x = z .args in
-    let r = z .pre in
-    let p = c .before .before .before .before .before .before .before .before .before .before .before .before .before .before .net-pins in
-    let f = c .before .before .before .before .before .before .before .before .before .before .next .given in
-    let e = c .before .before .before .before .before .before .before .edges-line in
-    let h = c .before .before .before .after .given in
-    let told = ap (answered (x .c .line + 1) (x .s .now) (tilesOf (x .g) (p .last .1 .1 .0))) (sym (f .1)) ∙ p .ensures .0 (x .c .line) in
-    let k = fine (x .s .now) (x .c) (x .g) (r .0) (x .i) (x .w .now) (r .1 .1 .1) (p .last .1 .1 .0) (f .0 .0) (f .0 .1 .0) (f .0 .1 .1 .0) told (p .ensures .1 .1) in
-    let line = subst (λ (y : EdgesRead). LineRead (x .g) (x .i + 1) (x .s .now) (f .0 .0) (k .pins) (x .w .now) (e .last .1 .1 .0) y) (h .1)
-    (e .ensures .0 (k .pins) (x .w .now) (k .fit .some-pin)
-    (reading (x .s .now) (x .c) (x .g) (r .0) (x .i) (x .w .now) (r .1 .1 .1) (p .last .1 .1 .0) (f .0 .0) (f .0 .1 .0) (f .0 .1 .1 .0) told (p .ensures .1 .1))) in
-    let below = next-in (length (x .s .now)) (p .result) (f .0 .0) (f .0 .1 .0) (f .0 .1 .1 .0) (f .1) (p .ensures .1 .0) in (
+    let b = c .before .before in
+    let k = q (l b) in
+    let r = z k .pre in (
       (r .1 .1 .1 .turn, r .1 .1 .0 .0),
       (
-        omega (arith, r .1 .0),
-        omega (arith, below, r .1 .0 .2),
-        pins-number (x .s .now) (x .c) (x .g) (r .0) (x .i) (x .w .now) (r .1 .1 .1) (p .last .1 .1 .0) (f .0 .0) (f .0 .1 .0) (f .0 .1 .1 .0) told (p .ensures .1 .1) (e .last .1 .1 .0) (h .0 .0) (h .0 .1 .0) line,
+        omega (arith, stands k .0, r .1 .0),
+        omega (arith, found-edges b .from-in, r .1 .0 .2),
+        pins-number (s k) (at k) (g k) (r .0) (i k) (w₀ k) (r .1 .1 .1) (w₁ k) (p k) (d k) (told k) (y k .net-pins .ensures .1 .1) (stands k) (w₂ b) (e b) (f b) (found-edges b),
         r .1 .1 .0 .1,
-        omega (arith, edges-number (x .s .now) (x .c) (x .g) (r .0) (x .i) (x .w .now) (r .1 .1 .1) (p .last .1 .1 .0) (f .0 .0) (f .0 .1 .0) (f .0 .1 .1 .0) told (p .ensures .1 .1) (e .last .1 .1 .0) (h .0 .0) (h .0 .1 .0) line),
+        omega (arith, edges-number (s k) (at k) (g k) (r .0) (i k) (w₀ k) (r .1 .1 .1) (w₁ k) (p k) (d k) (told k) (y k .net-pins .ensures .1 .1) (stands k) (w₂ b) (e b) (f b) (found-edges b)),
       ),
     )
 
 returns-3 : tie.Need-returns-3
 returns-3 c =
-    let z = c .before .before .before .before .before .before .before .before .before .before .before .before .before .before .before .before .before .before .before .before .before .before .before in
-    let x = z .args in
-    let r = z .pre in
-    let p = c .before .before .before .before .before .before .before .before .before .before .before .before .before .before .before .before .before .before .net-pins in
-    let f = c .before .before .before .before .before .before .before .before .before .before .before .before .before .before .next .given in
-    let e = c .before .before .before .before .before .before .before .before .before .before .before .edges-line in
-    let h = c .before .before .before .before .before .before .before .after .given in
-    let told = ap (answered (x .c .line + 1) (x .s .now) (tilesOf (x .g) (p .last .1 .1 .0))) (sym (f .1)) ∙ p .ensures .0 (x .c .line) in
-    let k = fine (x .s .now) (x .c) (x .g) (r .0) (x .i) (x .w .now) (r .1 .1 .1) (p .last .1 .1 .0) (f .0 .0) (f .0 .1 .0) (f .0 .1 .1 .0) told (p .ensures .1 .1) in
-    let line = subst (λ (y : EdgesRead). LineRead (x .g) (x .i + 1) (x .s .now) (f .0 .0) (k .pins) (x .w .now) (e .last .1 .1 .0) y) (h .1)
-    (e .ensures .0 (k .pins) (x .w .now) (k .fit .some-pin)
-    (reading (x .s .now) (x .c) (x .g) (r .0) (x .i) (x .w .now) (r .1 .1 .1) (p .last .1 .1 .0) (f .0 .0) (f .0 .1 .0) (f .0 .1 .1 .0) told (p .ensures .1 .1))) in
-    let t = c .before .before .before .put-row in
-    let row : t .last .0 ≡ rowPut (x .table .now) (x .i) (x .c .at + 5) (f .0 .0 + 6) (f .0 .1 .0) (x .first) (h .0 .1 .0) = t .ensures in
-    let done = body-found (x .s .now) (x .c) (x .g) (r .0) (x .i) (x .w .now) (r .1 .1 .1) (p .last .1 .1 .0) (f .0 .0) (f .0 .1 .0) (f .0 .1 .1 .0) told (p .ensures .1 .1) (e .last .1 .1 .0) (h .0 .0) (h .0 .1 .0) line (x .table .now) (x .first) (r .1 .1 .0 .0) in (
-      rw row done,
-      (e .ensures .1 ∙ p .ensures .1 .1 .long, rw row (done .table-long)),
+    let b = c .before .before .before .before .before in
+    let k = q (l b) in
+    let r = z k .pre in
+    let t = c .before .before .put-row in
+    let done = body-found (s k) (at k) (g k) (r .0) (i k) (w₀ k) (r .1 .1 .1) (w₁ k) (p k) (d k) (told k) (y k .net-pins .ensures .1 .1) (stands k) (w₂ b) (e b) (f b) (found-edges b) (z k .args .table .now) (z k .args .row .first) (r .1 .1 .0 .0) in (
+      rw (t .ensures) done,
+      (l b .edges-line .ensures .1 ∙ y k .net-pins .ensures .1 .1 .long, rw (t .ensures) (done .table-long)),
     )
 
 pub net-body-spec : {M : Type 1} → statement M
@@ -117,20 +165,8 @@ net-body-spec =
     tie.close
     (tie.spec
     (λ c. search needs) (λ c. search needs)
-    (λ c κs. let r = c .before .before .before .before .pre in
-    (r .0, ((r .1 .1 .1 .room, omega (arith, r .1 .1 .1 .turn), r .1 .0 .2, r .1 .0 .0), λ t. omega (arith, r .1 .1 .1 .marks t))))
-    (λ c. search needs) (λ c. search needs) (λ c. search needs)
-    edges-line-requires
-    (λ c. search needs) (λ c. search needs) (λ c. search needs) (λ c. search needs)
-    (λ c. let z = c .before .before .before .before .before .before .before .before .before .before .before .before .before .before .before .before .before .before .before in
-    let p = c .before .before .before .before .before .before .before .before .before .before .before .before .before .before .net-pins in
-    let f = c .before .before .before .before .before .before .before .before .before .before .next .given in
-    omega (arith, next-in (length (z .args .s .now)) (p .result) (f .0 .0) (f .0 .1 .0) (f .0 .1 .1 .0) (f .1) (p .ensures .1 .0), z .pre .1 .0 .2))
-    put-row-requires
-    (λ c. omega (arith, c .before .before .before .before .before .before .before .before .before .before .before .before .before .before .before .before .before .before .before .before .before .before .before .pre .1 .0 .1))
-    (λ c. search needs)
-    returns
-    (λ c. search needs)
-    returns-2
-    (λ c. search needs) (λ c. search needs)
-    returns-3)
+    (λ c κs. let r = c .before .before .before .before .before .pre in
+    (r .0, ((r .1 .1 .1 .room, omega (arith, r .1 .1 .1 .turn), r .1 .0 .2, r .1 .0 .0, omega (arith, r .1 .0 .1)), λ t. omega (arith, r .1 .1 .1 .marks t))))
+    (λ c. search needs) (λ c. search needs) edges-line-requires
+    (λ c. search needs) (λ c. search needs) put-row-requires
+    (λ c. search needs) returns (λ c. search needs) returns-2 (λ c. search needs) (λ c. search needs) returns-3)

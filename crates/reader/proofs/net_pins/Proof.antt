@@ -10,7 +10,9 @@ use Rattle.layout.specs.Areas.{tilesAt}
 use Rattle.layout.specs.Lent.{lent-part, put-part, put-outside}
 use Rattle.layout.specs.Parts.{part-long}
 use Rattle.model.specs.Read.{pinsLine}
-use Rattle.pins.specs.Pins.{answered, mapped, pinsMarked}
+use Rattle.lines.specs.Told.{mapped}
+use Rattle.pins.specs.Pins.{pinsTold, pinsMarked}
+use Rattle.text.specs.Refusals.{placeOf}
 use Rattle.reader.proofs.net_pins.Statement.{statement}
 use Rattle.reader.proofs.net_pins.Tie as tie
 
@@ -23,7 +25,7 @@ pins-line-requires c κs =
     let lent = lent-part (tilesAt (x .g)) (x .g .t) (x .w .now) (from .result) (to .result) (from .ensures .0) (to .ensures .0) in
     let long : x .g .t ≤ length (take (to .result - from .result) (drop (from .result) (x .w .now))) =
     omega (arith, ap length lent, part-long (tilesAt (x .g)) (x .g .t) (x .w .now) (omega (arith, r .1 .0 .0))) in
-    (r .0, ((long, r .1 .0 .1, r .1 .0 .2, r .1 .0 .3), rw lent (r .1 .1)))
+    (r .0, ((long, r .1 .0 .1, r .1 .0 .2, r .1 .0 .3, r .1 .0 .4), rw lent (r .1 .1)))
 
 returns : tie.Need-returns
 returns c =
@@ -36,9 +38,9 @@ returns c =
     let room : tilesAt (x .g) + x .g .t ≤ length (x .w .now) = omega (arith, r .1 .0 .0) in
     let long : length (p .last .1 .1 .0) ≡ x .g .t = p .ensures .1 .1 ∙ ap length lent ∙ part-long (tilesAt (x .g)) (x .g .t) (x .w .now) room in
     let back = put-part (tilesAt (x .g)) (x .g .t) (x .w .now) (from .result) (to .result) (from .ensures .0) (to .ensures .0) (p .last .1 .1 .0) room long in (
-      λ n. ap (λ (l : List ℕ). answered (n + 1) (x .s .now) l (p .result)) back
-          ∙ p .ensures .0 n
-          ∙ ap (λ (l : List ℕ). mapped (pinsMarked (x .stamp) l) (pinsLine (x .g .w) (x .g .h) (x .g .k) (record { line = n; rest = drop (x .at) (x .s .now) }))) lent,
+      ap (λ (l : List ℕ). pinsTold (x .s .now) l (p .result)) back
+          ∙ p .ensures .0
+          ∙ ap (λ (l : List ℕ). mapped (pinsMarked (x .stamp) l) (pinsLine (x .g .w) (x .g .h) (x .g .k) (placeOf (x .s .now) (x .c)))) lent,
       (
         p .ensures .1 .0,
         put-outside (tilesAt (x .g)) (x .g .t) (x .w .now) (from .result) (to .result) (from .ensures .0) (to .ensures .0) (p .last .1 .1 .0) room long,

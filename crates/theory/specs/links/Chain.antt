@@ -1,5 +1,5 @@
 -- "The first fault decides": what a chain of lines refuses and what it accepts, for every chain and every text. A kind of line is a key, a form and rows of
--- tests; a chain puts lines and tests between lines one after another.
+-- tests; a chain puts lines, lines that may be left out and tests between lines one after another.
 -- Assumes nothing.
 use mathlib.Core.Path.{_≡_, refl, sym, ap, _∙_, subst}
 use mathlib.Core.List.{List, [], _∷_, _++_}
@@ -70,9 +70,10 @@ first-or-clean h (row m b Wrong w rs) = go (λ k. first-or-clean (h, k) rs) (wro
 
 -- ---- kinds of lines
 
--- a kind of line: its key, the form of its value, the tests of what stands there, and what it gives
+-- a kind of line: its key, the number by which a wrong key or form is refused, the form of its value, the tests of what stands there, and what it gives
 pub record Kind (B C : Type 0) : Type 1 where
   pub key : String
+  pub number : ℕ
   pub value : List ℕ → Option B
   pub rows : B → Rows (Unit {0})
   pub result : B → C
@@ -82,7 +83,7 @@ abbrev pub opening : {B C : Type 0} → Kind B C → List ℕ
 opening k = bytes (k .key) ++ (61 ∷ [])
 
 unfoldable pub lineOf : {B C : Type 0} → Kind B C → Reading C
-lineOf k p = next (line (k .key) p) (λ v q. next (form (k .value v) q) (λ b. checks (k .rows b) (give (k .result b))))
+lineOf k p = next (line (k .number) (k .key) p) (λ v q. next (form (k .number) (k .value v) q) (λ b. checks (k .rows b) (give (k .result b))))
 
 module _ {B C : Type 0} (k : Kind B C) (p : Place) where
   -- the next line has the key and the form of its kind: b stands there, and q is the place after it
@@ -102,7 +103,7 @@ module _ {B C : Type 0} (k : Kind B C) (p : Place) where
 
   -- n is the first number that the next line is wrong by
   pub data WrongLine (n : ℕ) : Type 0 where
-    form-wrong : WrongForm → n ≡ 2 → WrongLine n
+    form-wrong : WrongForm → n ≡ k .number → WrongLine n
     row-wrong : (b : B) (q : Place) → Stands b q → First (k .rows b) n → WrongLine n
 
   -- the next line is in order: it gives c, and q is the place after it
@@ -112,7 +113,7 @@ module _ {B C : Type 0} (k : Kind B C) (p : Place) where
     pub clean : Clean (k .rows entry)
     pub gives : c ≡ k .result entry
 
-  wrong-form : WrongForm → lineOf k p ≡ refused 2 (suc (p .line))
+  wrong-form : WrongForm → lineOf k p ≡ refused (k .number) (suc (p .line))
   unfolding lineOf line
   wrong-form (missing e) = rw e
   wrong-form (other-key c e f) = rw (e, f)
@@ -146,27 +147,34 @@ module _ {B C : Type 0} (k : Kind B C) (p : Place) where
       by-rows b q s (inr c) = inr (k .result b, q, record { entry = b; stands = s; clean = c; gives = refl })
 
       by-form : (c : List ℕ × List ℕ) (v : List ℕ) → cutLine (p .rest) ≡ some c → behind (opening k) (c .0) ≡ some v → (o : Option B) → k .value v ≡ o → Either
-      by-form c v e f none g = inl (2, form-wrong (no-form c v e f g) refl)
+      by-form c v e f none g = inl (k .number, form-wrong (no-form c v e f g) refl)
       by-form c v e f (some b) g =
           by-rows b (record { line = suc (p .line); rest = c .1 }) (record { text = c .0; value = v; cut = e; keyed = f; formed = g; counted = refl })
           (first-or-clean tt (k .rows b))
 
       by-key : (c : List ℕ × List ℕ) → cutLine (p .rest) ≡ some c → (o : Option (List ℕ)) → behind (opening k) (c .0) ≡ o → Either
-      by-key c e none f = inl (2, form-wrong (other-key c e f) refl)
+      by-key c e none f = inl (k .number, form-wrong (other-key c e f) refl)
       by-key c e (some v) f = by-form c v e f (k .value v) refl
 
       by-cut : (o : Cut) → cutLine (p .rest) ≡ o → Either
-      by-cut none e = inl (2, form-wrong (missing e) refl)
+      by-cut none e = inl (k .number, form-wrong (missing e) refl)
       by-cut (some c) e = by-key c e (behind (opening k) (c .0)) refl
 
 -- ---- chains of lines
 
--- lines one after another, each with the values of those before it: an end with a value; a line; tests at the line read last; the end of the text
+-- lines one after another, each with the values of those before it: an end with a value; a line; a line that may be left out, with the value that it then
+-- has; tests at the line read last; the end of the text
 pub data Chain (A : Type 0) : Type 1 where
   done : A → Chain A
   reads : {B C : Type 0} → Kind B C → (C → Chain A) → Chain A
+  may : {B C : Type 0} → Kind B C → C → (C → Chain A) → Chain A
   tests : Rows (Unit {0}) → Chain A → Chain A
   ends : Chain A → Chain A
+
+-- a line that may be left out is there exactly where the rest of the text begins with its key and `=`
+abbrev where-begun : {A : Type 0} → Option (List ℕ) → Result A → Result A → Result A
+where-begun none there absent = absent
+where-begun (some v) there absent = there
 
 more-refused : (p : Place) → (p .rest ≡ [] → ⊥) → end p ≡ refused 2 (suc (p .line))
 more-refused p h = go (p .rest) h
@@ -197,6 +205,7 @@ module _ {A : Type 0} where
   abbrev pub run : Chain A → Reading A
   run (done a) = give a
   run (reads k f) = λ p. next (lineOf k p) (λ c. run (f c))
+  run (may k c f) = λ p. where-begun (behind (opening k) (p .rest)) (next (lineOf k p) (λ d. run (f d))) (run (f c) p)
   run (tests rs s) = checks rs (run s)
   run (ends s) = λ p. next (end p) (λ u. run s)
 
@@ -204,12 +213,14 @@ module _ {A : Type 0} where
   abbrev pub AtFault : Chain A → Place → ℕ → ℕ → Type 0
   AtFault (done a) p n l = ⊥
   AtFault (reads k f) p n l = WrongLine k p n × (l ≡ suc (p .line))
+  AtFault (may k c f) p n l = (v : List ℕ) × (behind (opening k) (p .rest) ≡ some v) × WrongLine k p n × (l ≡ suc (p .line))
   AtFault (tests rs s) p n l = First rs n × (l ≡ p .line)
   AtFault (ends s) p n l = (p .rest ≡ [] → ⊥) × (n ≡ 2) × (l ≡ suc (p .line))
 
   fault-refused : (s : Chain A) (p : Place) (n l : ℕ) → AtFault s p n l → run s p ≡ refused n l
   fault-refused (done a) p n l f = absurd f
   fault-refused (reads k g) p n l f = rw (wrong-refused k p n (f .0), f .1)
+  fault-refused (may k c g) p n l f = rw (f .1, wrong-refused k p n (f .2), f .3)
   fault-refused (tests rs s) p n l f = first-refuses tt rs (run s) p n (f .0) ∙ ap (λ (m : ℕ). refused n m) (sym (f .1))
   fault-refused (ends s) p n l f = rw (more-refused p (f .0), f .1, f .2)
 
@@ -218,6 +229,9 @@ module _ {A : Type 0} (s : Chain A) (p : Place) where
   pub data Comes : Chain A → Place → Type 1 where
     begun : Comes s p
     past-line : {B C : Type 0} {k : Kind B C} {f : C → Chain A} {q : Place} {c : C} {r : Place} → Comes (reads k f) q → RightLine k q c r → Comes (f c) r
+    past-there : {B C : Type 0} {k : Kind B C} {c : C} {f : C → Chain A} {q : Place} {v : List ℕ} {d : C} {r : Place}
+        → Comes (may k c f) q → behind (opening k) (q .rest) ≡ some v → RightLine k q d r → Comes (f d) r
+    past-absent : {B C : Type 0} {k : Kind B C} {c : C} {f : C → Chain A} {q : Place} → Comes (may k c f) q → behind (opening k) (q .rest) ≡ none → Comes (f c) q
     past-tests : {rs : Rows (Unit {0})} {t : Chain A} {q : Place} → Comes (tests rs t) q → Clean rs → Comes t q
     past-end : {t : Chain A} {q : Place} → Comes (ends t) q → q .rest ≡ [] → Comes t q
 
@@ -225,6 +239,8 @@ module _ {A : Type 0} (s : Chain A) (p : Place) where
   comes-run : {t : Chain A} {q : Place} → Comes t q → run s p ≡ run t q
   comes-run begun = refl
   comes-run (past-line {k = k} {f = f} {q = q} {c = c} {r = r} w o) = comes-run w ∙ ap (λ (x : Result _). next x (λ d. run (f d))) (right-found k q c r o)
+  comes-run (past-there {k = k} {f = f} {q = q} {d = d} {r = r} w e o) = comes-run w ∙ rw e (ap (λ (x : Result _). next x (λ c. run (f c))) (right-found k q d r o))
+  comes-run (past-absent w e) = comes-run w ∙ rw e
   comes-run (past-tests {rs = rs} {t = t} {q = q} w c) = comes-run w ∙ clean-passes tt rs (run t) q c
   comes-run (past-end {t = t} {q = q} w e) = comes-run w ∙ ap (λ (bs : List ℕ). next (noMore bs q) (λ u. run t)) e
 
@@ -247,6 +263,16 @@ module _ {A : Type 0} (s : Chain A) (p : Place) where
         go : ((n : ℕ) × WrongLine k q n) ⊎ ((c : C) × (r : Place) × RightLine k q c r) → Decided
         go (inl (n, x)) = inl (n, suc (q .line), comes-refused n (suc (q .line)) w (x, refl), h n x)
         go (inr (c, r, o)) = g c r (o .stands .counted) (past-line w o)
+
+    -- at a line that may be left out the reading goes on behind it, or, where it does not stand there, with its value
+    pub then-may : {B C : Type 0} {k : Kind B C} {c : C} {f : C → Chain A} {q : Place} → Comes (may k c f) q → ((n : ℕ) → WrongLine k q n → W n (suc (q .line)))
+        → ((d : C) (r : Place) → r .line ≡ suc (q .line) → Comes (f d) r → Decided) → (Comes (f c) q → Decided) → Decided
+    then-may {B} {C} {k} {c} {f} {q} w h g a = go (behind (opening k) (q .rest)) refl (wrong-or-right k q)
+      where
+        go : (o : Option (List ℕ)) → behind (opening k) (q .rest) ≡ o → ((n : ℕ) × WrongLine k q n) ⊎ ((d : C) × (r : Place) × RightLine k q d r) → Decided
+        go none e x = a (past-absent w e)
+        go (some v) e (inl (n, x)) = inl (n, suc (q .line), comes-refused n (suc (q .line)) w (v, e, x, refl), h n x)
+        go (some v) e (inr (d, r, o)) = g d r (o .stands .counted) (past-there w e o)
 
     pub then-tests : {rs : Rows (Unit {0})} {t : Chain A} {q : Place} → Comes (tests rs t) q → ((n : ℕ) → First rs n → W n (q .line))
         → (Comes t q → Decided) → Decided

@@ -5,7 +5,7 @@ use mathlib.Core.List.{List, [], _∷_, _++_}
 use mathlib.Core.Bool.{Bool, true, false, _&&_}
 use mathlib.Core.Option.{Option, none, some}
 use mathlib.Core.Logic.{_⊎_, _↔_}
-use Prim.Native.Nat.{ℕ, zero, suc, _<_}
+use Prim.Native.Nat.{ℕ, zero, suc, _+_, _*_, _<_}
 use native.Mathlib.Omega.{arith}
 use lib.Dec.{T, leb}
 use lib.ListN.{length}
@@ -20,6 +20,20 @@ use Rattle.theory.specs.links.Kinds.{rangedKind, capacityKind, netKind, 
 -- the reading starts before the first line
 abbrev pub start : List ℕ → Place
 start text = record { line = 0; rest = text }
+
+-- ---- the numbers of the lines: a line that a later request adds changes these alone
+
+-- the line `layers`, after which the working numbers are tested
+abbrev pub layersLine : ℕ
+layersLine = 3
+
+-- the lines of the head, for K layers; the last of them is `nets`
+abbrev pub headLines : ℕ → ℕ
+headLines K = layersLine + 4 + 2 * K
+
+-- the lines through net i, counted from 1; the last of them is its `edges` line
+abbrev pub linesTo : ℕ → ℕ → ℕ
+linesTo K i = headLines K + 3 * i
 
 -- ---- the lines in their order
 

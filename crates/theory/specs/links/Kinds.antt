@@ -45,6 +45,7 @@ edgesOf W H = map (edgeAt W H)
 abbrev pub rangedKind : String → ℕ → ℕ → Kind ℕ ℕ
 rangedKind key low high = record {
   key = key;
+  number = 2;
   value = number;
   rows = λ n. row 3 (leb low n && leb n high) (OutOfRange low high n) (λ h. range-fails low high n) no-more;
   result = λ n. n;
@@ -54,6 +55,7 @@ rangedKind key low high = record {
 abbrev pub capacityKind : String → ℕ → Kind (List ℕ) (List ℕ)
 capacityKind key size = record {
   key = key;
+  number = 2;
   value = numbers;
   rows = λ cs.
       row 2 (eqb (length cs) size) (length cs ≢ size) (λ h. eqb-fails (length cs) size)
@@ -67,6 +69,7 @@ capacityKind key size = record {
 abbrev pub netKind : ℕ → Kind ℕ (Unit {0})
 netKind i = record {
   key = "net";
+  number = 2;
   value = number;
   rows = λ n. row 4 (eqb n i) (n ≢ i) (λ h. eqb-fails n i) no-more;
   result = λ n. tt;
@@ -76,6 +79,7 @@ netKind i = record {
 abbrev pub pinsKind : ℕ → ℕ → ℕ → Kind (List Triple) (List Pin)
 pinsKind W H K = record {
   key = "pins";
+  number = 2;
   value = pinEntries;
   rows = λ ps.
       row 3 (all (pinInside W H K) ps) (PinsOut W H K ps)
@@ -90,6 +94,7 @@ pinsKind W H K = record {
 abbrev pub edgesKind : ℕ → ℕ → List Pin → Kind (List Triple) (List ℕ)
 edgesKind W H pins = record {
   key = "edges";
+  number = 2;
   value = edgeEntries;
   rows = λ es.
       row 3 (all (edgeInside W H) es) (EdgesOut W H es)
@@ -114,7 +119,7 @@ need-last n false p = refl
 
 pub ranged-is : (key : String) (low high : ℕ) (p : Place) → ranged key low high p ≡ lineOf (rangedKind key low high) p
 unfolding ranged lineOf
-ranged-is key low high p = next-next (line key p) (λ v. form (number v)) (λ n. λ q. next (need 3 (leb low n && leb n high) q) (λ u. give n))
+ranged-is key low high p = next-next (line 2 key p) (λ v. form 2 (number v)) (λ n. λ q. next (need 3 (leb low n && leb n high) q) (λ u. give n))
 
 pub capacity-is : (key : String) (size : ℕ) (p : Place) → capacityLine key size p ≡ lineOf (capacityKind key size) p
 unfolding capacityLine lineOf
@@ -124,7 +129,7 @@ pub net-is : (i : ℕ) (p : Place) → netLine i p ≡ lineOf (netKind i) p
 unfolding lineOf
 net-is i p =
     (λ j. next (numberLine "net" p) (λ n q. need-last 4 (eqb n i) q j))
-    ∙ next-next (line "net" p) (λ v. form (number v)) (λ n. λ q. next (need 4 (eqb n i) q) (λ u. give tt))
+    ∙ next-next (line 2 "net" p) (λ v. form 2 (number v)) (λ n. λ q. next (need 4 (eqb n i) q) (λ u. give tt))
 
 module _ (W H : ℕ) where
   pub pins-is : (K : ℕ) (p : Place) → pinsLine W H K p ≡ lineOf (pinsKind W H K) p

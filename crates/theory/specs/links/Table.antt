@@ -5,7 +5,7 @@ use mathlib.Core.Path.{_≡_, refl, sym, _∙_, subst}
 use mathlib.Core.List.{List, [], _∷_, _++_}
 use mathlib.Core.Bool.{Bool, false}
 use mathlib.Core.Logic.{inl, inr, ⊎-elim, _↔_, _≢_}
-use Prim.Native.Nat.{ℕ, zero, suc, _+_, _*_, _≤_, _<_}
+use Prim.Native.Nat.{ℕ, zero, suc, _+_, _-_, _*_, _≤_, _<_}
 use Prim.Native.String.{String}
 use native.Mathlib.Omega.{arith}
 use lib.ListN.{length}
@@ -17,7 +17,7 @@ use Rattle.theory.specs.congestion.Sums.{same-cases}
 use Rattle.theory.specs.links.Chain.{First, Kind, Stands, WrongForm, WrongLine, form-wrong, row-wrong, Chain, done, reads, tests, ends, refused-found, same-refusal, AtFault, Comes, begun, comes-refused, Decided, then-line, then-tests, then-end, decided-refused, decided-found}
 use Rattle.theory.specs.links.Words.{PinTwice, EdgeTwice, HasRing, NotReached}
 use Rattle.theory.specs.links.Kinds.{OutOfRange, CapacitiesOut, PinsOut, EdgesOut, pinsOf, edgesOf, rangedKind, capacityKind, netKind, pinsKind, edgesKind}
-use Rattle.theory.specs.links.JobText.{one, start, layersChain, netsChain, RoomShort, workingRow, orderRow, roomRow, textChain, read-is}
+use Rattle.theory.specs.links.JobText.{one, start, layersLine, headLines, linesTo, layersChain, netsChain, RoomShort, workingRow, orderRow, roomRow, textChain, read-is}
 
 -- ---- tables
 
@@ -89,7 +89,7 @@ module _ (lent : Lent) (text : List ℕ) where
 
   -- "2, the line: wrong key, form or list length, missing line, text after the last line"
   pub data WrongAt (l : ℕ) : Type 1 where
-    wrong-form : {B C : Type 0} (k : Kind B C) (f : C → Chain Job) (q : Place) → At (reads k f) q → WrongForm k q → l ≡ suc (q .line) → WrongAt l
+    wrong-form : {B C : Type 0} (k : Kind B C) (f : C → Chain Job) (q : Place) → At (reads k f) q → k .number ≡ 2 → WrongForm k q → l ≡ suc (q .line) → WrongAt l
     wrong-length : (key : String) (size : ℕ) (cs : List ℕ) → LineAt (capacityKind key size) cs l → length cs ≢ size → WrongAt l
     text-after : (s : Chain Job) (q : Place) → At (ends s) q → (q .rest ≡ [] → ⊥) → l ≡ suc (q .line) → WrongAt l
 
@@ -100,44 +100,44 @@ module _ (lent : Lent) (text : List ℕ) where
     pin-out : (W H K : ℕ) (ps : List Triple) → LineAt (pinsKind W H K) ps l → PinsOut W H K ps → RangeAt l
     edge-out : (W H : ℕ) (pins : List Pin) (es : List Triple) → LineAt (edgesKind W H pins) es l → EdgesOut W H es → RangeAt l
 
-  -- "4, the line: net number out of turn": the `net` line of net i is line 5 + 2K + 3i
+  -- "4, the line: net number out of turn": the `net` line of net i is the first of its three
   pub data TurnAt (l : ℕ) : Type 1 where
-    out-of-turn : (K i m : ℕ) → OfNet K i → LineAt (netKind i) m (5 + 2 * K + 3 * i) → m ≢ i → l ≡ 5 + 2 * K + 3 * i → TurnAt l
+    out-of-turn : (K i m : ℕ) → OfNet K i → LineAt (netKind i) m (linesTo K i - 2) → m ≢ i → l ≡ linesTo K i - 2 → TurnAt l
 
-  -- "5, the line: same tile and layer twice on `pins`": that of net i is line 6 + 2K + 3i
+  -- "5, the line: same tile and layer twice on `pins`": that of net i is the second of its three
   pub data PinTwiceAt (l : ℕ) : Type 1 where
-    pin-twice : (W H K i : ℕ) (ps : List Triple) → OfNet K i → LineAt (pinsKind W H K) ps (6 + 2 * K + 3 * i) → (PinsOut W H K ps → ⊥)
-        → PinTwice (pinsOf W ps) → l ≡ 6 + 2 * K + 3 * i → PinTwiceAt l
+    pin-twice : (W H K i : ℕ) (ps : List Triple) → OfNet K i → LineAt (pinsKind W H K) ps (linesTo K i - 1) → (PinsOut W H K ps → ⊥)
+        → PinTwice (pinsOf W ps) → l ≡ linesTo K i - 1 → PinTwiceAt l
 
-  -- "6, the line: same edge twice on `edges`": that of net i is line 7 + 2K + 3i
+  -- "6, the line: same edge twice on `edges`": that of net i is the third of its three
   pub data EdgeTwiceAt (l : ℕ) : Type 1 where
-    edge-twice : (W H K i : ℕ) (pins : List Pin) (es : List Triple) → OfNet K i → LineAt (edgesKind W H pins) es (7 + 2 * K + 3 * i) → (EdgesOut W H es → ⊥)
-        → EdgeTwice (edgesOf W H es) → l ≡ 7 + 2 * K + 3 * i → EdgeTwiceAt l
+    edge-twice : (W H K i : ℕ) (pins : List Pin) (es : List Triple) → OfNet K i → LineAt (edgesKind W H pins) es (linesTo K i) → (EdgesOut W H es → ⊥)
+        → EdgeTwice (edgesOf W H es) → l ≡ linesTo K i → EdgeTwiceAt l
 
   -- "7, the `edges` line: the net's edges contain a ring"
   pub data RingAt (l : ℕ) : Type 1 where
-    has-ring : (W H K i : ℕ) (pins : List Pin) (es : List Triple) → OfNet K i → LineAt (edgesKind W H pins) es (7 + 2 * K + 3 * i) → (EdgesOut W H es → ⊥)
-        → (EdgeTwice (edgesOf W H es) → ⊥) → HasRing W H (edgesOf W H es) → l ≡ 7 + 2 * K + 3 * i → RingAt l
+    has-ring : (W H K i : ℕ) (pins : List Pin) (es : List Triple) → OfNet K i → LineAt (edgesKind W H pins) es (linesTo K i) → (EdgesOut W H es → ⊥)
+        → (EdgeTwice (edgesOf W H es) → ⊥) → HasRing W H (edgesOf W H es) → l ≡ linesTo K i → RingAt l
 
   -- "8, the `edges` line: no ring, but a pin or edge not reached from the first pin's tile along the edges"
   pub data ReachAt (l : ℕ) : Type 1 where
-    not-reached : (W H K i : ℕ) (pins : List Pin) (es : List Triple) → OfNet K i → LineAt (edgesKind W H pins) es (7 + 2 * K + 3 * i) → (EdgesOut W H es → ⊥)
-        → (EdgeTwice (edgesOf W H es) → ⊥) → (HasRing W H (edgesOf W H es) → ⊥) → NotReached W H pins (edgesOf W H es) → l ≡ 7 + 2 * K + 3 * i → ReachAt l
+    not-reached : (W H K i : ℕ) (pins : List Pin) (es : List Triple) → OfNet K i → LineAt (edgesKind W H pins) es (linesTo K i) → (EdgesOut W H es → ⊥)
+        → (EdgeTwice (edgesOf W H es) → ⊥) → (HasRing W H (edgesOf W H es) → ⊥) → NotReached W H pins (edgesOf W H es) → l ≡ linesTo K i → ReachAt l
 
   -- "9, 3: fewer working numbers than needed", "right after line 3": the line read last is line 3
   pub data WorkingAt (l : ℕ) : Type 1 where
     working-short : (W H K : ℕ) (s : Chain Job) (q : Place) → At (tests (workingRow lent W H K) s) q → lent .working < workingNeed W H K
-        → q .line ≡ 3 → l ≡ 3 → WorkingAt l
+        → q .line ≡ layersLine → l ≡ layersLine → WorkingAt l
 
-  -- "10, the `nets` line: fewer order entries than N", "after the `nets` line", which is line 7 + 2K
+  -- "10, the `nets` line: fewer order entries than N", "after the `nets` line", the last of the head
   pub data OrderAt (l : ℕ) : Type 1 where
     order-short : (K N : ℕ) (s : Chain Job) (q : Place) → Layers K → At (tests (orderRow lent N) s) q → lent .order < N
-        → q .line ≡ 7 + 2 * K → l ≡ 7 + 2 * K → OrderAt l
+        → q .line ≡ headLines K → l ≡ headLines K → OrderAt l
 
-  -- "11, the last line: answer list or print buffer too short", "after the whole text", whose last line is line 7 + 2K + 3N
+  -- "11, the last line: answer list or print buffer too short", "after the whole text", whose last line is that of the last net
   pub data RoomAt (l : ℕ) : Type 1 where
     room-short : (K N : ℕ) (j : Job) (s : Chain Job) (q : Place) → Layers K → Nets N → At (tests (roomRow lent N j) s) q → RoomShort lent N (entryCount j)
-        → q .line ≡ 7 + 2 * K + 3 * N → l ≡ 7 + 2 * K + 3 * N → RoomAt l
+        → q .line ≡ linesTo K N → l ≡ linesTo K N → RoomAt l
 
   -- the table: the rows of the numbers 1 to 11
   abbrev pub table : List (ℕ → Type 1)
@@ -166,7 +166,7 @@ module _ (lent : Lent) (text : List ℕ) where
   long-refused l (too-long h z) = by 1 l begun (inl (h, refl), z)
 
   wrong-refused : (l : ℕ) → WrongAt l → Refused 2 l
-  wrong-refused l (wrong-form k f q a w z) = by 2 l a (form-wrong w refl, z)
+  wrong-refused l (wrong-form k f q a m w z) = by 2 l a (form-wrong w (sym m), z)
   wrong-refused l (wrong-length key size cs d w) = by-line 2 l d (inl (w, refl))
   wrong-refused l (text-after s q a h z) = by 2 l a (h, refl, z)
 
@@ -177,19 +177,19 @@ module _ (lent : Lent) (text : List ℕ) where
   range-refused l (edge-out W H pins es d w) = by-line 3 l d (inl (w, refl))
 
   turn-refused : (l : ℕ) → TurnAt l → Refused 4 l
-  turn-refused l (out-of-turn K i m o d w z) = on-line 4 l z (by-line 4 (5 + 2 * K + 3 * i) d (inl (w, refl)))
+  turn-refused l (out-of-turn K i m o d w z) = on-line 4 l z (by-line 4 (linesTo K i - 2) d (inl (w, refl)))
 
   pin-refused : (l : ℕ) → PinTwiceAt l → Refused 5 l
-  pin-refused l (pin-twice W H K i ps o d u w z) = on-line 5 l z (by-line 5 (6 + 2 * K + 3 * i) d (inr (u, inl (w, refl))))
+  pin-refused l (pin-twice W H K i ps o d u w z) = on-line 5 l z (by-line 5 (linesTo K i - 1) d (inr (u, inl (w, refl))))
 
   edge-refused : (l : ℕ) → EdgeTwiceAt l → Refused 6 l
-  edge-refused l (edge-twice W H K i pins es o d u w z) = on-line 6 l z (by-line 6 (7 + 2 * K + 3 * i) d (inr (u, inl (w, refl))))
+  edge-refused l (edge-twice W H K i pins es o d u w z) = on-line 6 l z (by-line 6 (linesTo K i) d (inr (u, inl (w, refl))))
 
   ring-refused : (l : ℕ) → RingAt l → Refused 7 l
-  ring-refused l (has-ring W H K i pins es o d u v w z) = on-line 7 l z (by-line 7 (7 + 2 * K + 3 * i) d (inr (u, inr (v, inl (w, refl)))))
+  ring-refused l (has-ring W H K i pins es o d u v w z) = on-line 7 l z (by-line 7 (linesTo K i) d (inr (u, inr (v, inl (w, refl)))))
 
   reach-refused : (l : ℕ) → ReachAt l → Refused 8 l
-  reach-refused l (not-reached W H K i pins es o d u v x w z) = on-line 8 l z (by-line 8 (7 + 2 * K + 3 * i) d (inr (u, inr (v, inr (x, inl (w, refl))))))
+  reach-refused l (not-reached W H K i pins es o d u v x w z) = on-line 8 l z (by-line 8 (linesTo K i) d (inr (u, inr (v, inr (x, inl (w, refl))))))
 
   working-refused : (l : ℕ) → WorkingAt l → Refused 9 l
   working-refused l (working-short W H K s q a w z y) = by 9 l a (inl (w, refl), y ∙ sym z)
@@ -221,23 +221,23 @@ module _ (lent : Lent) (text : List ℕ) where
   abbrev Goes : {C : Type 0} → (C → Chain Job) → Place → Type 1
   Goes {C} f q = (c : C) (r : Place) → r .line ≡ suc (q .line) → At (f c) r → End
 
-  reads-on : {B C : Type 0} {k : Kind B C} {f : C → Chain Job} {q : Place} → At (reads k f) q
+  reads-on : {B C : Type 0} {k : Kind B C} {f : C → Chain Job} {q : Place} → k .number ≡ 2 → At (reads k f) q
       → ((n : ℕ) (b : B) → LineAt k b (suc (q .line)) → First (k .rows b) n → Why n (suc (q .line))) → Goes f q → End
-  reads-on {B} {C} {k} {f} {q} a h = then-line (textChain lent text) (start text) Why a told
+  reads-on {B} {C} {k} {f} {q} two a h = then-line (textChain lent text) (start text) Why a told
     where
       told : (n : ℕ) → WrongLine k q n → Why n (suc (q .line))
-      told n (form-wrong w e) = because 2 n (suc (q .line)) e (wrong-form k f q a w refl)
+      told n (form-wrong w e) = because 2 n (suc (q .line)) (e ∙ two) (wrong-form k f q a two w refl)
       told n (row-wrong b r s w) = h n b (record { others = f; before = q; after = r; comes = a; stands = s; line = refl }) w
 
   ranged-on : (key : String) (low high : ℕ) {f : ℕ → Chain Job} {q : Place} → At (reads (rangedKind key low high) f) q → Goes f q → End
-  ranged-on key low high {q = q} a = reads-on a told
+  ranged-on key low high {q = q} a = reads-on refl a told
     where
       told : (n m : ℕ) → LineAt (rangedKind key low high) m (suc (q .line)) → First (rangedKind key low high .rows m) n → Why n (suc (q .line))
       told n m d (inl (w, e)) = because 3 n (suc (q .line)) e (number-out key low high m d w)
       told n m d (inr (u, w)) = absurd w
 
   capacity-on : (key : String) (size : ℕ) {f : List ℕ → Chain Job} {q : Place} → At (reads (capacityKind key size) f) q → Goes f q → End
-  capacity-on key size {q = q} a = reads-on a told
+  capacity-on key size {q = q} a = reads-on refl a told
     where
       long : (cs : List ℕ) → (length cs ≢ size → ⊥) → length cs ≡ size
       long cs u = ⊎-elim (λ t. t .0) (λ t. absurd (u (t .0))) (same-cases (length cs) size)
@@ -247,26 +247,26 @@ module _ (lent : Lent) (text : List ℕ) where
       told n cs d (inr (u, inl (w, e))) = because 3 n (suc (q .line)) e (capacity-out key size cs d (long cs u) w)
       told n cs d (inr (u, inr (v, w))) = absurd w
 
-  net-on : (K i : ℕ) {f : Unit {0} → Chain Job} {q : Place} → OfNet K i → suc (q .line) ≡ 5 + 2 * K + 3 * i → At (reads (netKind i) f) q → Goes f q → End
-  net-on K i {q = q} o z a = reads-on a told
+  net-on : (K i : ℕ) {f : Unit {0} → Chain Job} {q : Place} → OfNet K i → suc (q .line) ≡ linesTo K i - 2 → At (reads (netKind i) f) q → Goes f q → End
+  net-on K i {q = q} o z a = reads-on refl a told
     where
       told : (n m : ℕ) → LineAt (netKind i) m (suc (q .line)) → First (netKind i .rows m) n → Why n (suc (q .line))
       told n m d (inl (w, e)) = because 4 n (suc (q .line)) e (out-of-turn K i m o (subst (LineAt (netKind i) m) z d) w z)
       told n m d (inr (u, w)) = absurd w
 
-  pins-on : (W H K i : ℕ) {f : List Pin → Chain Job} {q : Place} → OfNet K i → suc (q .line) ≡ 6 + 2 * K + 3 * i → At (reads (pinsKind W H K) f) q → Goes f q → End
-  pins-on W H K i {q = q} o z a = reads-on a told
+  pins-on : (W H K i : ℕ) {f : List Pin → Chain Job} {q : Place} → OfNet K i → suc (q .line) ≡ linesTo K i - 1 → At (reads (pinsKind W H K) f) q → Goes f q → End
+  pins-on W H K i {q = q} o z a = reads-on refl a told
     where
       told : (n : ℕ) (ps : List Triple) → LineAt (pinsKind W H K) ps (suc (q .line)) → First (pinsKind W H K .rows ps) n → Why n (suc (q .line))
       told n ps d (inl (w, e)) = because 3 n (suc (q .line)) e (pin-out W H K ps d w)
       told n ps d (inr (u, inl (w, e))) = because 5 n (suc (q .line)) e (pin-twice W H K i ps o (subst (LineAt (pinsKind W H K) ps) z d) u w z)
       told n ps d (inr (u, inr (v, w))) = absurd w
 
-  edges-on : (W H K i : ℕ) (pins : List Pin) {f : List ℕ → Chain Job} {q : Place} → OfNet K i → suc (q .line) ≡ 7 + 2 * K + 3 * i
+  edges-on : (W H K i : ℕ) (pins : List Pin) {f : List ℕ → Chain Job} {q : Place} → OfNet K i → suc (q .line) ≡ linesTo K i
       → At (reads (edgesKind W H pins) f) q → Goes f q → End
-  edges-on W H K i pins {q = q} o z a = reads-on a told
+  edges-on W H K i pins {q = q} o z a = reads-on refl a told
     where
-      here : (es : List Triple) → LineAt (edgesKind W H pins) es (suc (q .line)) → LineAt (edgesKind W H pins) es (7 + 2 * K + 3 * i)
+      here : (es : List Triple) → LineAt (edgesKind W H pins) es (suc (q .line)) → LineAt (edgesKind W H pins) es (linesTo K i)
       here es = subst (LineAt (edgesKind W H pins) es) z
 
       told : (n : ℕ) (es : List Triple) → LineAt (edgesKind W H pins) es (suc (q .line)) → First (edgesKind W H pins .rows es) n → Why n (suc (q .line))
@@ -287,8 +287,8 @@ module _ (lent : Lent) (text : List ℕ) where
 
   -- three lines for each net: m of them, from number i on
   module _ (W H K N : ℕ) (layers : Layers K) (nets : Nets N) where
-    nets-on : (i m : ℕ) {k : List Net → Chain Job} {q : Place} → At (netsChain W H K i m k) q → 1 ≤ i → i + m ≡ suc N → q .line ≡ 4 + 2 * K + 3 * i
-        → ((ns : List Net) (r : Place) → r .line ≡ 7 + 2 * K + 3 * N → At (k ns) r → End) → End
+    nets-on : (i m : ℕ) {k : List Net → Chain Job} {q : Place} → At (netsChain W H K i m k) q → 1 ≤ i → i + m ≡ suc N → q .line + 3 ≡ linesTo K i
+        → ((ns : List Net) (r : Place) → r .line ≡ linesTo K N → At (k ns) r → End) → End
     nets-on i zero {q = q} a low high e g = g [] q (omega arith) a
     nets-on i (suc m) {q = q} a low high e g =
         net-on K i of (omega arith) a (λ u q1 e1 a1.

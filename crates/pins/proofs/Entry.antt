@@ -15,9 +15,11 @@ use Rattle.marks.specs.declared.Put.the-variants.{Twice, Fresh, Known}
 use Rattle.model.specs.Lists.{bit}
 use Rattle.model.specs.Read.{Triple, pinInside, pinAt}
 use Rattle.scan.specs.Pins.{triple}
+use Rattle.text.specs.declared.Cursor.{Cursor}
 use Rattle.text.specs.declared.Fault.the-variants.{Range, PinTwice}
+use Rattle.text.specs.declared.Refusal.the-variants.{Line as OnLine}
 use Rattle.pins.specs.Pins.{markedSeen, seenAfter, workAfter, verdictOf}
-use Rattle.pins.specs.declared.PinsRead.the-variants.{Line, Bad}
+use Rattle.pins.specs.declared.PinsRead.the-variants.{Line, Refused}
 use Rattle.pins.specs.declared.Seen.{Seen}
 
 -- ---- what marking found
@@ -111,15 +113,15 @@ seen-counts g n a v t h = go (pinInside (g .w) (g .h) (g .k) t) (marked n a (pin
 
 -- ---- the verdict
 
-module _ (v : Seen) (next : ℕ) where
-  pub verdict-range : v .inside ≡ false → Bad Range ≡ verdictOf v next
+module _ (v : Seen) (from : ℕ) (c : Cursor) where
+  pub verdict-range : v .inside ≡ false → Refused (OnLine Range (c .line)) ≡ verdictOf v from c
   unfolding verdictOf
   verdict-range e = rw e
 
-  pub verdict-twice : v .inside ≡ true → v .twice ≡ true → Bad PinTwice ≡ verdictOf v next
+  pub verdict-twice : v .inside ≡ true → v .twice ≡ true → Refused (OnLine PinTwice (c .line)) ≡ verdictOf v from c
   unfolding verdictOf
   verdict-twice e h = rw (e, h)
 
-  pub verdict-fine : v .inside ≡ true → v .twice ≡ false → Line next (v .entries) (v .tiles) ≡ verdictOf v next
+  pub verdict-fine : v .inside ≡ true → v .twice ≡ false → Line (record { from = from; entries = v .entries; tiles = v .tiles }) c ≡ verdictOf v from c
   unfolding verdictOf
   verdict-fine e h = rw (e, h)

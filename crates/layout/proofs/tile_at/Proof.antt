@@ -2,9 +2,9 @@
 -- Assumes nothing.
 use mathlib.Core.Path.{refl}
 use native.Mathlib.Omega.{arith}
-use Rattle.scan.specs.Inside.{tile-below}
-use Rattle.pins.proofs.tile_at.Statement.{statement}
-use Rattle.pins.proofs.tile_at.Tie as tie
+use Rattle.layout.specs.Shapes.{tile-below}
+use Rattle.layout.proofs.tile_at.Statement.{statement}
+use Rattle.layout.proofs.tile_at.Tie as tie
 
 pub tile-at-spec : {M : Type 1} → statement M
 tile-at-spec =

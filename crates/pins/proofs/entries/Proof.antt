@@ -1,4 +1,4 @@
--- `pins` meets its contract. The loop's invariant: what is left of the line, done from here, gives the whole answer.
+-- `entries` meets its contract. The loop's invariant: what is left of the line, done from here, gives the whole answer.
 -- Assumes nothing.
 use mathlib.Core.Bool.{true, false}
 use mathlib.Core.Path.{_≡_, refl, sym, ap, _∙_}
@@ -13,18 +13,18 @@ use Rattle.text.specs.declared.Entry.the-variants.{More}
 use Rattle.scan.specs.Pins.{triple, pinsOf}
 use Rattle.pins.specs.Pins.{start, finish}
 use Rattle.pins.specs.declared.Seen.{Seen}
-use Rattle.pins.proofs.Entries.{work-long, seen-counts}
+use Rattle.pins.proofs.Entry.{work-long, seen-counts}
 use Rattle.pins.proofs.Turns.{turn-bad, turn-more, turn-last, turn-place, last-place}
-use Rattle.pins.proofs.pins.Statement.{statement}
-use Rattle.pins.proofs.pins.Tie as tie
+use Rattle.pins.proofs.entries.Statement.{statement}
+use Rattle.pins.proofs.entries.Tie as tie
 
 abbrev Inv-loop : tie.InvT-loop
-Inv-loop s at a₀ g stamp i₀ v₀ a i v =
-    (length a ≡ length a₀) × (v .tiles ≤ v .entries) × (v .entries + at ≤ i) × (v .entries ≤ length s)
-    × ((n : ℕ) → finish g stamp n start a₀ (pinsOf (drop at s)) ≡ finish g stamp n v a (pinsOf (drop i s)))
+Inv-loop s c a₀ g stamp i₀ v₀ a i v =
+    (length a ≡ length a₀) × (v .tiles ≤ v .entries) × (v .entries + c .at ≤ i) × (v .entries ≤ length s)
+    × (finish g stamp (c .line) start a₀ (pinsOf (drop (c .at) s)) ≡ finish g stamp (c .line) v a (pinsOf (drop i s)))
 
 abbrev μ-loop : tie.MeasureT-loop
-μ-loop s at a₀ g stamp i₀ v₀ a i v = length s - i
+μ-loop s c a₀ g stamp i₀ v₀ a i v = length s - i
 
 returns : tie.Need-returns Inv-loop μ-loop
 returns c =
@@ -32,7 +32,7 @@ returns c =
     let x = c .before .before .before .before .before .before .before .args in
     let r = c .before .before .item-of .result in
     let e = entry-is r (pinEntryAt (x .s .now) (l .i)) false (r .last) (not-true _ (c .if1 .taken)) refl (c .before .before .item-of .ensures ∙ c .before .before .before .pin-at .ensures) in
-    (λ n. sym (l .inv .4 n ∙ turn-bad (x .g) (x .stamp) (x .s .now) (l .i) (l .v) (l .a) e n), (tt, l .inv .0))
+    (sym (l .inv .4 ∙ turn-bad (x .g) (x .stamp) (x .c .line) (x .s .now) (l .i) (l .v) (l .a) e), (tt, l .inv .0))
 
 put-pin-requires : tie.Need-put-pin-requires Inv-loop μ-loop
 put-pin-requires c κs =
@@ -55,10 +55,10 @@ returns-2 c =
     let r = c .before .before .before .before .before .before .before .before .item-of .result in
     let p = c .before .before .before .before .put-pin in
     let e = entry-is r (pinEntryAt (x .s .now) (l .i)) true true (not-false _ (c .before .before .before .before .before .before .if1 .left)) (c .before .if2 .taken) (c .before .before .before .before .before .before .before .before .item-of .ensures ∙ c .before .before .before .before .before .before .before .before .before .pin-at .ensures) in (
-      λ n. sym (l .inv .4 n ∙ turn-last (x .g) (x .stamp) (x .s .now) (l .i) (l .v) (l .a)
-          (r .x) (r .y) (r .z) (r .next) (p .result) (p .last .0) (p .ensures .0) (p .ensures .1) (c .verdict .result) (c .verdict .ensures) e n),
+      sym (l .inv .4 ∙ turn-last (x .g) (x .stamp) (x .c .line) (x .s .now) (l .i) (l .v) (l .a)
+          (r .x) (r .y) (r .z) (r .next) (p .result) (p .last .0) (p .ensures .0) (p .ensures .1) (x .c .at) (c .verdict .result) (c .verdict .ensures) e),
       (
-        last-place (x .s .now) (l .i) (r .x) (r .y) (r .z) (r .next) e (p .result) (c .verdict .result) (c .verdict .ensures),
+        last-place (x .s .now) (l .i) (r .x) (r .y) (r .z) (r .next) e (p .result) (x .c .at) (x .c .line) (c .verdict .result) (c .verdict .ensures),
         same-length-2 c,
       ),
     )
@@ -86,17 +86,16 @@ loop-again c =
       rw (p .ensures .0) (k .1),
       omega (arith, t .0, k .0, ap (λ (z : Seen). z .entries) (p .ensures .0), l .inv .2),
       omega (arith, t .0, t .1, k .0, ap (λ (z : Seen). z .entries) (p .ensures .0), l .inv .2),
-      λ n.
-          l .inv .4 n
-          ∙ turn-more (x .g) (x .stamp) (x .s .now) (l .i) (l .v) (l .a) (r .x) (r .y) (r .z) (r .next) (p .result) (p .last .0) (p .ensures .0) (p .ensures .1) (more c) n,
+      l .inv .4
+          ∙ turn-more (x .g) (x .stamp) (x .c .line) (x .s .now) (l .i) (l .v) (l .a) (r .x) (r .y) (r .z) (r .next) (p .result) (p .last .0) (p .ensures .0) (p .ensures .1) (more c),
     )
 
-pub pins-spec : {M : Type 1} → statement M
-pins-spec =
+pub entries-spec : {M : Type 1} → statement M
+entries-spec =
     tie.close
     (tie.spec
     Inv-loop μ-loop
-    (λ c. (refl, omega arith, omega arith, omega arith, λ n. refl))
+    (λ c. (refl, omega arith, omega arith, omega arith, refl))
     (λ c κs. search needs) (λ c κs. search needs)
     (λ c. c .before .before .before .before .loop .inv .0)
     returns
