@@ -35,6 +35,7 @@ module _ (W H K : ℕ) (w1 : 1 ≤ W) (w2 : W ≤ 64) (h1 : 1 ≤ H) (h2 : H ≤
     t-is = refl;
     east-is = refl;
     e-is = refl;
+    m-is = refl;
     t-least = some W H w1 h1;
     t-most = product W H w2 h2;
     east-most = omega arith;

@@ -35,18 +35,18 @@ listAt g = chosenAt g + 2 * g .t
 
 -- by walk place: the tile, and the edge above it
 abbrev pub stopsAt : Shape → ℕ
-stopsAt g = listAt g + g .t
+stopsAt g = listAt g + 2 * g .t
 
 abbrev pub aboveAt : Shape → ℕ
-aboveAt g = stopsAt g + g .t
+aboveAt g = stopsAt g + g .m
 
 -- by walk place: ends of branches, pins, legal layers, layers, costs
 abbrev pub engineAt : Shape → ℕ
-engineAt g = aboveAt g + g .t
+engineAt g = aboveAt g + g .m
 
 -- where the last of them ends
 abbrev pub areasEnd : Shape → ℕ
-areasEnd g = engineAt g + 12 * g .t
+areasEnd g = engineAt g + 12 * g .m
 
 -- an edge's K numbers lie within the K × E of all edges
 pub edge-room : (g : Shape) (e : ℕ) → e < g .e → e * g .k + g .k ≤ loadsAt g

@@ -18,7 +18,7 @@ abbrev pub stackOf : ℕ → Made
 stackOf k = cond (ltb k leastLayers) Outside (cond (ltb mostLayers k) Outside (stacked (record { layers = k })))
 
 abbrev pub shapeOf : ℕ → ℕ → ℕ → Shape
-shapeOf W H K = record { w = W; h = H; k = K; t = tiles W H; east = eastCount W H; e = gridEdges W H }
+shapeOf W H K = record { w = W; h = H; k = K; t = tiles W H; m = tiles W H; east = eastCount W H; e = gridEdges W H }
 
 -- a shape of sizes within document 01's limits, and how large its numbers can be
 pub record Shaped (g : Shape) : Type 0 where
@@ -31,6 +31,7 @@ pub record Shaped (g : Shape) : Type 0 where
   pub t-is : g .t ≡ tiles (g .w) (g .h)
   pub east-is : g .east ≡ eastCount (g .w) (g .h)
   pub e-is : g .e ≡ gridEdges (g .w) (g .h)
+  pub m-is : g .m ≡ g .t
   pub t-least : 1 ≤ g .t
   pub t-most : g .t ≤ 4096
   pub east-most : g .east ≤ g .e

@@ -35,12 +35,13 @@ impl Stack {
     }
 }
 
-// W, H and K; T tiles, the edges that go east, and E edges in all.
+// W, H and K; T tiles, room for m places of a walk, the edges that go east, and E edges in all.
 pub struct Shape {
     pub w: usize,
     pub h: usize,
     pub k: usize,
     pub t: usize,
+    pub m: usize,
     pub east: usize,
     pub e: usize,
 }
@@ -52,11 +53,13 @@ pub fn shape_of(w: usize, h: usize, stack: Stack) -> Shape
 {
     let east = (w - 1) * h;
     let north = w * (h - 1);
+    let tiles = w * h;
     Shape {
         w,
         h,
         k: stack.layers,
-        t: w * h,
+        t: tiles,
+        m: tiles,
         east,
         e: east + north,
     }
@@ -177,7 +180,7 @@ pub fn chosen_at(g: Shape) -> usize
     links_at(g) + g.t
 }
 
-// The edges of the net at hand, in the order of its `edges` line.
+// The edges of the net at hand, in the order of its `edges` line, 2 × T.
 pub fn list_at(g: Shape) -> usize
     requires { ⌜ Shaped g ⌝ }
     ensures { λ r. ⌜ r ≡ listAt g ⌝ }
@@ -190,27 +193,27 @@ pub fn list_at(g: Shape) -> usize
 pub fn stops_at(g: Shape) -> usize
     requires { ⌜ Shaped g ⌝ }
     ensures { λ r. ⌜ r ≡ stopsAt g ⌝ }
-    ensures { λ r. ⌜ r ≤ 165632 ⌝ }
+    ensures { λ r. ⌜ r ≤ 169728 ⌝ }
 {
-    list_at(g) + g.t
+    list_at(g) + 2 * g.t
 }
 
 // By walk place: the edge above it.
 pub fn above_at(g: Shape) -> usize
     requires { ⌜ Shaped g ⌝ }
     ensures { λ r. ⌜ r ≡ aboveAt g ⌝ }
-    ensures { λ r. ⌜ r ≤ 169728 ⌝ }
+    ensures { λ r. ⌜ r ≤ 173824 ⌝ }
 {
-    stops_at(g) + g.t
+    stops_at(g) + g.m
 }
 
-// By walk place, 12 × T: the end of its branches, its pins, the legal layers and the layer of the edge above it, and 8 costs.
+// By walk place, 12 × m: the end of its branches, its pins, the legal layers and the layer of the edge above it, and 8 costs.
 pub fn engine_at(g: Shape) -> usize
     requires { ⌜ Shaped g ⌝ }
     ensures { λ r. ⌜ r ≡ engineAt g ⌝ }
-    ensures { λ r. ⌜ r ≤ 173824 ⌝ }
+    ensures { λ r. ⌜ r ≤ 177920 ⌝ }
 {
-    above_at(g) + g.t
+    above_at(g) + g.m
 }
 
 // ---- the net table: six numbers for each net

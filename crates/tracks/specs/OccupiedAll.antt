@@ -25,7 +25,7 @@ use Rattle.net.specs.Places.{edge-room, apart}
 
 -- by walk place: the layer of the edge above it
 abbrev pub layersAt : Shape → ℕ
-layersAt g = engineAt g + 3 * g .t
+layersAt g = engineAt g + 3 * g .m
 
 -- the edges above the places 1 to n − 1 of the walk, and their layers
 abbrev pub edgesOf : Shape → ℕ → List ℕ → List ℕ

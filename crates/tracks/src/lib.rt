@@ -98,12 +98,12 @@ pub fn occupy(w: &mut [u32], g: Shape, edge: usize, layer: usize)
 // One more net, with n tiles in its walk: the edge above each but the first, on the layer chosen for it.
 pub fn occupy_all(w: &mut [u32], g: Shape, n: usize)
     requires { ⌜ Shaped g ⌝ }
-    requires { ⌜ (n ≤ g .t) × (areasEnd g ≤ length (now w)) ⌝ }
+    requires { ⌜ (n ≤ g .m) × (areasEnd g ≤ length (now w)) ⌝ }
     requires { ⌜ CanTake g (now w) (edgesOf g n (now w)) (layersIn g n (now w)) ⌝ }
     ensures { λ _. ⌜ now (w .exit) ≡ occupiedAll g (now (w .entry)) (edgesOf g n (now (w .entry))) (layersIn g n (now (w .entry))) ⌝ }
 {
     let above = layout::above_at(g);
-    let layers = layout::engine_at(g) + 3 * g.t;
+    let layers = layout::engine_at(g) + 3 * g.m;
     for i in 1..n {
         let edge = w[above + i] as usize;
         let layer = w[layers + i] as usize;

@@ -56,10 +56,10 @@ has-bit : (m l : ℕ) → mask.has m l ≡ bitOf m (l - 1)
 has-bit m l = bit-is m (l - 1)
 
 module _ (g : Shape) (shaped : Shaped g) (n : ℕ) (w : List ℕ) (room : areasEnd g ≤ length w) (stamp : ℕ) (u : Turn) (h : NetWalked g stamp n w u) where
-  fit : length (turnNet u .edges) < g .t
+  fit : length (turnNet u .edges) < g .m
   fit = edges-fit u g shaped (h .grid)
 
-  pub tiles-fit : (1 ≤ n) × (n ≤ g .t)
+  pub tiles-fit : (1 ≤ n) × (n ≤ g .m)
   tiles-fit = (omega (arith, h .tiles), omega (arith, h .tiles, fit))
 
   pub limit-fits : (m : ℕ → ℕ) → ((e : ℕ) → m e ≡ turnLimit u e) → (e : ℕ) → m e ≤ mostNets
@@ -77,50 +77,50 @@ module _ (g : Shape) (shaped : Shaped g) (n : ℕ) (w : List ℕ) (room : areasE
   known (suc k) p q = omega (arith, h .above k (omega (arith, h .tiles)), edge-in k (omega (arith, h .tiles)))
 
   module _ (m : ℕ → ℕ) (m-is : (e : ℕ) → m e ≡ turnLimit u e) (w′ : List ℕ) (put : LegalPut g n m w w′) where
-    part-room : engineAt g + 12 * g .t ≤ length w′
+    part-room : engineAt g + 12 * g .m ≤ length w′
     part-room = omega (arith, put .outside .long)
 
     -- what stands in the engine's part
-    engine-at : (i : ℕ) → i < 12 * g .t → getD (engineOf g w′) i 0 ≡ getD w′ (engineAt g + i) 0
-    engine-at i b = part-at (engineAt g) (12 * g .t) w′ i b
+    engine-at : (i : ℕ) → i < 12 * g .m → getD (engineOf g w′) i 0 ≡ getD w′ (engineAt g + i) 0
+    engine-at i b = part-at (engineAt g) (12 * g .m) w′ i b
 
     ends-at : (i : ℕ) → i ≤ length (turnNet u .edges) → getD (engineOf g w′) i 0 ≡ getD w (engineAt g + i) 0
     ends-at i b = engine-at i (omega (arith, fit)) ∙ put .outside .low (engineAt g + i) (omega (arith, fit))
 
-    pins-at : (i : ℕ) → i ≤ length (turnNet u .edges) → getD (engineOf g w′) (g .t + i) 0 ≡ getD w (engineAt g + g .t + i) 0
+    pins-at : (i : ℕ) → i ≤ length (turnNet u .edges) → getD (engineOf g w′) (g .m + i) 0 ≡ getD w (engineAt g + g .m + i) 0
     pins-at i b =
-        let p : engineAt g + (g .t + i) ≡ engineAt g + g .t + i = omega arith in
-        engine-at (g .t + i) (omega (arith, fit)) ∙ ap (λ (x : ℕ). getD w′ x 0) p ∙ put .outside .low (engineAt g + g .t + i) (omega (arith, fit))
+        let p : engineAt g + (g .m + i) ≡ engineAt g + g .m + i = omega arith in
+        engine-at (g .m + i) (omega (arith, fit)) ∙ ap (λ (x : ℕ). getD w′ x 0) p ∙ put .outside .low (engineAt g + g .m + i) (omega (arith, fit))
 
-    pins-set : (i : ℕ) → i ≤ length (turnNet u .edges) → IsSet (getD w (engineAt g + g .t + i) 0) (pinsAt (u .job) (turnNet u) i)
+    pins-set : (i : ℕ) → i ≤ length (turnNet u .edges) → IsSet (getD w (engineAt g + g .m + i) 0) (pinsAt (u .job) (turnNet u) i)
     pins-set i b = record {
       small = h .pins-small i b;
       covers = λ l k. let r = pins-cover (stopAt (u .job) (turnNet u) i .tile) (turnNet u .pins) (net-ok u .pins-layers) l k in (r .0, omega (arith, r .1, u .accepted .layers .1));
       into = λ l p q t.
-          has-in (pinsAt (u .job) (turnNet u) i) l .0 (subst T (has-bit (getD w (engineAt g + g .t + i) 0) l ∙ h .pins i b l p q) t);
+          has-in (pinsAt (u .job) (turnNet u) i) l .0 (subst T (has-bit (getD w (engineAt g + g .m + i) 0) l ∙ h .pins i b l p q) t);
       back = λ l k.
           let r = pins-cover (stopAt (u .job) (turnNet u) i .tile) (turnNet u .pins) (net-ok u .pins-layers) l k in
-          subst T (sym (has-bit (getD w (engineAt g + g .t + i) 0) l ∙ h .pins i b l (r .0) (omega (arith, r .1, u .accepted .layers .1))))
+          subst T (sym (has-bit (getD w (engineAt g + g .m + i) 0) l ∙ h .pins i b l (r .0) (omega (arith, r .1, u .accepted .layers .1))))
           (has-in (pinsAt (u .job) (turnNet u) i) l .1 k);
     }
 
-    mask-at : (i : ℕ) → i < length (turnNet u .edges) → getD (engineOf g w′) (2 * g .t + suc i) 0 ≡ legalAt g w (turnLimit u) (getD (turnWalk u) i 0)
+    mask-at : (i : ℕ) → i < length (turnNet u .edges) → getD (engineOf g w′) (2 * g .m + suc i) 0 ≡ legalAt g w (turnLimit u) (getD (turnWalk u) i 0)
     mask-at i b =
-        let p : engineAt g + (2 * g .t + suc i) ≡ masksAt g + suc i = omega arith in
-        engine-at (2 * g .t + suc i) (omega (arith, fit))
+        let p : engineAt g + (2 * g .m + suc i) ≡ masksAt g + suc i = omega arith in
+        engine-at (2 * g .m + suc i) (omega (arith, fit))
         ∙ ap (λ (x : ℕ). getD w′ x 0) p
         ∙ put .masks (suc i) (omega arith) (omega (arith, h .tiles))
         ∙ ap (legalAt g w m) (h .above i b)
         ∙ ap (legalMask g w (getD (turnWalk u) i 0)) (m-is (getD (turnWalk u) i 0))
 
-    bit-at : (i : ℕ) → i < length (turnNet u .edges) → (l : ℕ) → mask.has (getD (engineOf g w′) (2 * g .t + suc i) 0) l ≡ bitOf (legalAt g w (turnLimit u) (getD (turnWalk u) i 0)) (l - 1)
-    bit-at i b l = has-bit (getD (engineOf g w′) (2 * g .t + suc i) 0) l ∙ ap (λ (x : ℕ). bitOf x (l - 1)) (mask-at i b)
+    bit-at : (i : ℕ) → i < length (turnNet u .edges) → (l : ℕ) → mask.has (getD (engineOf g w′) (2 * g .m + suc i) 0) l ≡ bitOf (legalAt g w (turnLimit u) (getD (turnWalk u) i 0)) (l - 1)
+    bit-at i b l = has-bit (getD (engineOf g w′) (2 * g .m + suc i) 0) l ∙ ap (λ (x : ℕ). bitOf x (l - 1)) (mask-at i b)
 
     -- the net has a legal choice
     some : (z : List ℕ) × LegalFor (u .job) (placed (u .job) (u .plan)) (turnNet u) z
     some = turn-legal (u .lent) (u .job) (u .accepted) (u .entry) (u .rest) (u .plan) (u .midway)
 
-    pub holds : Holds (u .job) (turnNet u) (legal (u .job) (u .plan)) (engineOf g w′) (g .t) n (g .k)
+    pub holds : Holds (u .job) (turnNet u) (legal (u .job) (u .plan)) (engineOf g w′) (g .m) n (g .k)
     holds = record {
       wide = wide u;
       high = high u;
@@ -131,12 +131,12 @@ module _ (g : Shape) (shaped : Shaped g) (n : ℕ) (w : List ℕ) (room : areasE
       tiles = h .tiles;
       small = omega (arith, shaped .t-most);
       fits = fit;
-      room = omega (arith, part-long (engineAt g) (12 * g .t) w′ part-room);
+      room = omega (arith, part-long (engineAt g) (12 * g .m) w′ part-room);
       ends = λ i b. ends-at i b ∙ h .ends i b;
       pins = λ i b. subst (λ (x : ℕ). IsSet x (pinsAt (u .job) (turnNet u) i)) (sym (pins-at i b)) (pins-set i b);
       into = λ i b l p q t.
           legal-in g (u .job) (u .plan) w (h .so-far) (h .grid .layers) (getD (turnWalk u) i 0) l (edge-in i b) p (omega (arith, h .grid .layers)) .0
-          (sym (bit-at i b l) ∙ is-true (mask.has (getD (engineOf g w′) (2 * g .t + suc i) 0) l) t);
+          (sym (bit-at i b l) ∙ is-true (mask.has (getD (engineOf g w′) (2 * g .m + suc i) 0) l) t);
       back = λ i b l k.
           let r = legal-iff (u .job) (u .plan) (getD (turnWalk u) i 0) l .0 k in
           subst T
@@ -147,17 +147,17 @@ module _ (g : Shape) (shaped : Shaped g) (n : ℕ) (w : List ℕ) (room : areasE
       valid = to-walk (u .job) (wide u) (high u) (turnNet u) (net-ok u) (legal (u .job) (u .plan)) (λ x. x) (some .0) (legal-choice (u .job) (u .plan) (turnNet u) (some .0) (some .1)) .0;
     }
 
-    pub holds-net : HoldsNet (engineOf g w′) (g .t) n (g .k)
+    pub holds-net : HoldsNet (engineOf g w′) (g .m) n (g .k)
     holds-net = record { job = u .job; net = turnNet u; allowed = legal (u .job) (u .plan); holds = holds }
 
     -- ---- the choice
 
-    module _ (w″ : List ℕ) (r : ℕ) (o : Outside (engineAt g) (12 * g .t) w′ w″)
-        (placed-net : Placed (λ x. x) (u .job) (turnNet u) (legal (u .job) (u .plan)) (engineOf g w′) (engineOf g w″) (g .t) r) where
-      whole : Outside (engineAt g) (12 * g .t) w w″
+    module _ (w″ : List ℕ) (r : ℕ) (o : Outside (engineAt g) (12 * g .m) w′ w″)
+        (placed-net : Placed (λ x. x) (u .job) (turnNet u) (legal (u .job) (u .plan)) (engineOf g w′) (engineOf g w″) (g .m) r) where
+      whole : Outside (engineAt g) (12 * g .m) w w″
       whole =
-          outside-then (engineAt g) (12 * g .t) w w′ w″
-          (outside-wider (masksAt g) (g .t) (engineAt g) (12 * g .t) w w′ (put .outside) (omega arith) (omega arith)) o
+          outside-then (engineAt g) (12 * g .m) w w′ w″
+          (outside-wider (masksAt g) (g .m) (engineAt g) (12 * g .m) w w′ (put .outside) (omega arith) (omega arith)) o
 
       last : n - 1 ≡ length (turnNet u .edges)
       last = omega (arith, h .tiles)
@@ -174,10 +174,10 @@ module _ (g : Shape) (shaped : Shaped g) (n : ℕ) (w : List ℕ) (room : areasE
 
       layers-stand : layersIn g n w″ ≡ walkLayers u
       layers-stand =
-          let p : engineAt g + (3 * g .t + 1) ≡ layersAt g + 1 = omega arith in
+          let p : engineAt g + (3 * g .m + 1) ≡ layersAt g + 1 = omega arith in
           ap (λ (k : ℕ). part (layersAt g + 1) k w″) last
           ∙ ap (λ (a : ℕ). part a (length (turnNet u .edges)) w″) (sym p)
-          ∙ sym (slice-part (engineAt g) (12 * g .t) (3 * g .t + 1) (length (turnNet u .edges)) w″ (omega (arith, fit)) (omega (arith, whole .long)))
+          ∙ sym (slice-part (engineAt g) (12 * g .m) (3 * g .m + 1) (length (turnNet u .edges)) w″ (omega (arith, fit)) (omega (arith, whole .long)))
           ∙ placed-net .layers
           ∙ sym (best-walk (u .job) (u .plan) (turnNet u))
 
@@ -189,8 +189,8 @@ module _ (g : Shape) (shaped : Shaped g) (n : ℕ) (w : List ℕ) (room : areasE
           list = λ i b. whole .low (listAt g + i) (omega (arith, fit)) ∙ h .list i b;
           edges = edges-stand;
           layers = layers-stand;
-          so-far = so-far-low g w w″ (outside-low g (engineAt g) (12 * g .t) w w″ (omega arith) whole) (u .job) _ _ (h .so-far);
-          older = subst (Older (suc stamp)) (sym (part-outside (engineAt g) (12 * g .t) w w″ whole (tilesAt g) (g .t) (inl (omega arith)))) (h .older);
+          so-far = so-far-low g w w″ (outside-low g (engineAt g) (12 * g .m) w w″ (omega arith) whole) (u .job) _ _ (h .so-far);
+          older = subst (Older (suc stamp)) (sym (part-outside (engineAt g) (12 * g .m) w w″ whole (tilesAt g) (g .t) (inl (omega arith)))) (h .older);
         },
         placed-net .cost ∙ sym (vias-cost (u .job) (turnNet u .pins) (turnNet u .edges) (cheapest (legal (u .job) (u .plan)) (λ x. x) (u .job) (turnNet u)))
             ∙ ap (vias (u .job) (turnNet u .pins) (turnNet u .edges)) (sym (best-is (u .job) (u .plan) (turnNet u))),

@@ -23,7 +23,7 @@ pub record Masking (g : Shape) (a b : ℕ) (m : ℕ → ℕ) (w₀ w : List ℕ)
 pub masking-start : (g : Shape) (a b : ℕ) (m : ℕ → ℕ) (w : List ℕ) → Masking g a b m w w 1
 masking-start g a b m w = record { each = λ k p q. absurd (omega arith); outside = outside-same b 1 w }
 
-module _ (g : Shape) (a b : ℕ) (m : ℕ → ℕ) (n : ℕ) (w₀ : List ℕ) (a-is : a ≡ aboveAt g) (b-is : b ≡ masksAt g) (few : n ≤ g .t) (known : KnownEdges g n w₀) (w : List ℕ) (i : ℕ)
+module _ (g : Shape) (a b : ℕ) (m : ℕ → ℕ) (n : ℕ) (w₀ : List ℕ) (a-is : a ≡ aboveAt g) (b-is : b ≡ masksAt g) (few : n ≤ g .m) (known : KnownEdges g n w₀) (w : List ℕ) (i : ℕ)
     (o : Masking g a b m w₀ w i) where
   -- the next edge
   edge-kept : i < n → getD w (a + i) 0 ≡ getD w₀ (a + i) 0
@@ -57,5 +57,5 @@ module _ (g : Shape) (a b : ℕ) (m : ℕ → ℕ) (n : ℕ) (w₀ : List ℕ) (
   masking-done h l = record {
     masks = λ k p q.
         ap (λ (x : ℕ). getD w (x + k) 0) (sym b-is) ∙ o .each k p (omega arith) ∙ ap (λ (x : ℕ). legalAt g w₀ m (getD w₀ (x + k) 0)) a-is;
-    outside = outside-wider b i (masksAt g) (g .t) w₀ w (o .outside) (omega arith) (omega arith);
+    outside = outside-wider b i (masksAt g) (g .m) w₀ w (o .outside) (omega arith) (omega arith);
   }

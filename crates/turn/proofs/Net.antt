@@ -49,7 +49,7 @@ module _ (u : Turn) where
     edges-are = shaped .e-is ∙ ap₂ (λ (W H : ℕ). gridEdges W H) (grid .width) (grid .height)
 
     -- fewer edges than tiles
-    pub edges-fit : length (turnNet u .edges) < g .t
+    pub edges-fit : length (turnNet u .edges) < g .m
     edges-fit = omega (arith, tiles-are, edges-few (u .job) wide high (turnNet u) net-ok)
 
     pub edges-known : (e : ℕ) → In e (turnNet u .edges) → e < g .e

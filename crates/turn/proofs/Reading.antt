@@ -53,8 +53,8 @@ module _ (s : List ℕ) (p q : ℕ) (g : Shape) (shaped : Shaped g) (stamp : ℕ
       older = subst (Older (suc stamp)) (sym same) (λ t. omega (arith, read .hand .fits t));
     }
       where
-        o : Outside (stopsAt g) (4 * g .t) w′ w″
+        o : Outside (stopsAt g) (4 * g .m) w′ w″
         o = walked .outside
 
         same : tilesOf g w″ ≡ tilesOf g w′
-        same = part-outside (stopsAt g) (4 * g .t) w′ w″ (walked .outside) (tilesAt g) (g .t) (inl (omega arith))
+        same = part-outside (stopsAt g) (4 * g .m) w′ w″ (walked .outside) (tilesAt g) (g .t) (inl (omega arith))

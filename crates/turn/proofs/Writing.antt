@@ -24,10 +24,10 @@ use Rattle.turn.proofs.Choosing.{part-is}
 use Rattle.turn.proofs.Net.{stands, same-edges, edges-once, as-long, edges-are, edges-fit, edges-known, walk-known}
 
 module _ (g : Shape) (shaped : Shaped g) (n : ℕ) (w : List ℕ) (room : areasEnd g ≤ length w) (stamp : ℕ) (u : Turn) (h : NetChosen g stamp n w u) where
-  fit : length (turnNet u .edges) < g .t
+  fit : length (turnNet u .edges) < g .m
   fit = edges-fit u g shaped (h .grid)
 
-  pub tiles-fit : n ≤ g .t
+  pub tiles-fit : n ≤ g .m
   tiles-fit = omega (arith, h .tiles, fit)
 
   -- the edge above place k + 1
@@ -100,7 +100,7 @@ module _ (g : Shape) (shaped : Shaped g) (n : ℕ) (w : List ℕ) (room : areasE
             );
       }
 
-      pub answer-fits : c ≤ g .t
+      pub answer-fits : c ≤ g .m
       answer-fits = omega (arith, fit)
 
       answer-is : listedLayers g w′ c ≡ turnLayers u

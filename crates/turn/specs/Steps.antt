@@ -11,11 +11,11 @@ use Rattle.tracks.specs.Legal.{legalMask}
 
 -- by walk place: the legal layers of the edge above it
 abbrev pub masksAt : Shape → ℕ
-masksAt g = engineAt g + 2 * g .t
+masksAt g = engineAt g + 2 * g .m
 
 -- the engine's part: by walk place, and the cost rows
 abbrev pub engineOf : Shape → List ℕ → List ℕ
-engineOf g w = part (engineAt g) (12 * g .t) w
+engineOf g w = part (engineAt g) (12 * g .m) w
 
 -- above each of the places 1 to n − 1 of the walk stands an edge of the grid
 abbrev pub KnownEdges : Shape → ℕ → List ℕ → Type 0
@@ -28,7 +28,7 @@ legalAt g w m e = legalMask g w e (m e)
 -- they are put by walk place, and nothing else
 pub record LegalPut (g : Shape) (n : ℕ) (m : ℕ → ℕ) (w w′ : List ℕ) : Type 0 where
   pub masks : (i : ℕ) → 1 ≤ i → i < n → getD w′ (masksAt g + i) 0 ≡ legalAt g w m (getD w (aboveAt g + i) 0)
-  pub outside : Outside (masksAt g) (g .t) w w′
+  pub outside : Outside (masksAt g) (g .m) w w′
 
 -- the layers ls put by edge, at the places from a on of the edges es
 abbrev pub putBy : ℕ → List ℕ → List ℕ → List ℕ → List ℕ

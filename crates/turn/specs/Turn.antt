@@ -103,9 +103,9 @@ pub record NetWalked (g : Shape) (stamp n : ℕ) (w : List ℕ) (u : Turn) : Typ
   pub list : (i : ℕ) → i < length (turnNet u .edges) → getD w (listAt g + i) 0 ≡ getD (turnNet u .edges) i 0
   pub above : (i : ℕ) → i < length (turnNet u .edges) → getD w (aboveAt g + suc i) 0 ≡ getD (turnWalk u) i 0
   pub ends : (i : ℕ) → i ≤ length (turnNet u .edges) → getD w (engineAt g + i) 0 ≡ firstAt (u .job) (turnNet u) (suc i)
-  pub pins-small : (i : ℕ) → i ≤ length (turnNet u .edges) → getD w (engineAt g + g .t + i) 0 < 256
+  pub pins-small : (i : ℕ) → i ≤ length (turnNet u .edges) → getD w (engineAt g + g .m + i) 0 < 256
   pub pins : (i : ℕ) → i ≤ length (turnNet u .edges) → (l : ℕ) → 1 ≤ l → l ≤ 8
-      → bitOf (getD w (engineAt g + g .t + i) 0) (l - 1) ≡ has (pinsAt (u .job) (turnNet u) i) l
+      → bitOf (getD w (engineAt g + g .m + i) 0) (l - 1) ≡ has (pinsAt (u .job) (turnNet u) i) l
   pub so-far : SoFar g (u .job) (u .plan) w
   pub older : Older (suc stamp) (tilesOf g w)
 

@@ -22,12 +22,12 @@ ghost use Rattle.turn.specs.Steps.{KnownEdges, LegalPut, engineOf, putBy
 // Puts the legal layers of the edge above each of n walk places but the first.
 fn put_legal(w: &mut [u32], g: Shape, n: usize, limits: Limits)
     requires { ⌜ Shaped g ⌝ }
-    requires { ⌜ (areasEnd g ≤ length (now w)) × (1 ≤ n) × (n ≤ g .t) × ((e : ℕ) → limitAt limits e ≤ mostNets) ⌝ }
+    requires { ⌜ (areasEnd g ≤ length (now w)) × (1 ≤ n) × (n ≤ g .m) × ((e : ℕ) → limitAt limits e ≤ mostNets) ⌝ }
     requires { ⌜ SmallCapacities g (now w) × KnownEdges g n (now w) ⌝ }
     ensures { λ _. ⌜ LegalPut g n (limitAt limits) (now (w .entry)) (now (w .exit)) ⌝ }
 {
     let above = layout::above_at(g);
-    let masks = layout::engine_at(g) + 2 * g.t;
+    let masks = layout::engine_at(g) + 2 * g.m;
     for i in 1..n {
         let edge = w[above + i] as usize;
         let limit = flat::limit_at(limits, edge);
@@ -41,23 +41,23 @@ fn place(w: &mut [u32], g: Shape, n: usize, chart: &[u32; 256]) -> u32
     requires { ⌜ Charted spanOf (now chart) ⌝ }
     requires { ⌜ Shaped g ⌝ }
     requires { ⌜ areasEnd g ≤ length (now w) ⌝ }
-    requires { ⌜ HoldsNet (engineOf g (now w)) (g .t) n (g .k) ⌝ }
-    ensures { λ r. ⌜ ((j : Job) (net : Net) (allowed : ℕ → List ℕ) → Holds j net allowed (engineOf g (now (w .entry))) (g .t) n (g .k) → Placed (λ l. l) j net allowed (engineOf g (now (w .entry))) (engineOf g (now (w .exit))) (g .t) r) ⌝ }
-    ensures { λ _. ⌜ Outside (engineAt g) (12 * g .t) (now (w .entry)) (now (w .exit)) ⌝ }
+    requires { ⌜ HoldsNet (engineOf g (now w)) (g .m) n (g .k) ⌝ }
+    ensures { λ r. ⌜ ((j : Job) (net : Net) (allowed : ℕ → List ℕ) → Holds j net allowed (engineOf g (now (w .entry))) (g .m) n (g .k) → Placed (λ l. l) j net allowed (engineOf g (now (w .entry))) (engineOf g (now (w .exit))) (g .m) r) ⌝ }
+    ensures { λ _. ⌜ Outside (engineAt g) (12 * g .m) (now (w .entry)) (now (w .exit)) ⌝ }
 {
     let from = layout::engine_at(g);
-    let to = from + 12 * g.t;
-    engine::place_layers(&mut w[from..to], g.t, n, g.k, chart)
+    let to = from + 12 * g.m;
+    engine::place_layers(&mut w[from..to], g.m, n, g.k, chart)
 }
 
 // Puts the chosen layers of the edges above the walk places by edge.
 fn put_chosen(w: &mut [u32], g: Shape, n: usize)
     requires { ⌜ Shaped g ⌝ }
-    requires { ⌜ (areasEnd g ≤ length (now w)) × (n ≤ g .t) × KnownEdges g n (now w) ⌝ }
+    requires { ⌜ (areasEnd g ≤ length (now w)) × (n ≤ g .m) × KnownEdges g n (now w) ⌝ }
     ensures { λ _. ⌜ now (w .exit) ≡ putBy (chosenAt g) (now (w .entry)) (edgesOf g n (now (w .entry))) (layersIn g n (now (w .entry))) ⌝ }
 {
     let above = layout::above_at(g);
-    let layers = layout::engine_at(g) + 3 * g.t;
+    let layers = layout::engine_at(g) + 3 * g.m;
     let chosen = layout::chosen_at(g);
     for i in 1..n {
         let edge = w[above + i] as usize;
@@ -69,7 +69,7 @@ fn put_chosen(w: &mut [u32], g: Shape, n: usize)
 // Writes the net's layers in the order of its line into its stretch of the answer list.
 fn put_answer(w: &[u32], g: Shape, out: &mut [u8])
     requires { ⌜ Shaped g ⌝ }
-    requires { ⌜ (areasEnd g ≤ length (now w)) × (length (now out) ≤ g .t) ⌝ }
+    requires { ⌜ (areasEnd g ≤ length (now w)) × (length (now out) ≤ g .m) ⌝ }
     requires { ⌜ CanAnswer g (length (now out)) (now w) ⌝ }
     ensures { λ _. ⌜ now (out .exit) ≡ listedLayers g (now (w .entry)) (length (now (out .entry))) ⌝ }
 {

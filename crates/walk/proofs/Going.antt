@@ -53,8 +53,8 @@ pub record Going (g : Shape) (stamp : ℕ) (j : Job) (net : Net) (w₀ w : List 
   pub none-above : getD w (aboveAt g + 0) 0 ≡ g .e
   pub above : (k : ℕ) → suc k < n → getD w (aboveAt g + suc k) 0 ≡ getD (walk j net) k 0
   pub ends : (k : ℕ) → k < i → getD w (engineAt g + k) 0 ≡ firstAt j net (suc k)
-  pub pins : (k : ℕ) → k < i → getD w (engineAt g + g .t + k) 0 ≡ bitsAt stamp (tilesOf g w₀) (stopAt j net k .tile) % 256
-  pub outside : Outside (stopsAt g) (4 * g .t) w₀ w
+  pub pins : (k : ℕ) → k < i → getD w (engineAt g + g .m + k) 0 ≡ bitsAt stamp (tilesOf g w₀) (stopAt j net k .tile) % 256
+  pub outside : Outside (stopsAt g) (4 * g .m) w₀ w
 
 -- e is what stood there when the walk began, and w₀ what stands there once its first place is written
 pub record Begun (g : Shape) (stamp : ℕ) (j : Job) (net : Net) (root : ℕ) (e w₀ : List ℕ) : Type 0 where
@@ -81,7 +81,7 @@ module _ (g : Shape) (shaped : Shaped g) (stamp : ℕ) (j : Job) (net : Net) (ro
   edges-in : g .e ≡ gridEdges (j .width) (j .height)
   edges-in = shaped .e-is ∙ ap₂ gridEdges (walks .width) (walks .height)
 
-  few : suc (length (net .edges)) ≤ g .t
+  few : suc (length (net .edges)) ≤ g .m
   few = omega (arith, size, edges-few j wide high net ok)
 
   -- ---- the root
@@ -102,9 +102,9 @@ module _ (g : Shape) (shaped : Shaped g) (stamp : ℕ) (j : Job) (net : Net) (ro
     ends = λ k h. absurd (omega arith);
     pins = λ k h. absurd (omega arith);
     outside =
-        outside-then (stopsAt g) (4 * g .t) w₀ (set w₀ (stopsAt g) root) begun
-        (outside-wider (stopsAt g) 1 (stopsAt g) (4 * g .t) w₀ (set w₀ (stopsAt g) root) (set-outside w₀ (stopsAt g) root) (omega arith) (omega (arith, shaped .t-least)))
-        (outside-wider (aboveAt g) 1 (stopsAt g) (4 * g .t) (set w₀ (stopsAt g) root) begun (set-outside (set w₀ (stopsAt g) root) (aboveAt g) (g .e)) (omega arith) (omega (arith, shaped .t-least)));
+        outside-then (stopsAt g) (4 * g .m) w₀ (set w₀ (stopsAt g) root) begun
+        (outside-wider (stopsAt g) 1 (stopsAt g) (4 * g .m) w₀ (set w₀ (stopsAt g) root) (set-outside w₀ (stopsAt g) root) (omega arith) (omega (arith, shaped .t-least)))
+        (outside-wider (aboveAt g) 1 (stopsAt g) (4 * g .m) (set w₀ (stopsAt g) root) begun (set-outside (set w₀ (stopsAt g) root) (aboveAt g) (g .e)) (omega arith) (omega (arith, shaped .t-least)));
   })
     where
       begun : List ℕ
@@ -178,17 +178,17 @@ module _ (g : Shape) (shaped : Shaped g) (stamp : ℕ) (j : Job) (net : Net) (ro
     next : n + length (branchesIn g stamp w i) ≡ firstAt j net (suc i)
     next = omega (arith, kids, go .written, walk-by-place j wide high net ok .next i left)
 
-    places : n + length (branchesIn g stamp w i) ≤ g .t
+    places : n + length (branchesIn g stamp w i) ≤ g .m
     places = omega (arith, next, few, place-room j wide high net ok (suc i) (omega (arith, left)))
 
     -- what `visit` requires
-    pub visit-tile : (i < g .t) × (tileIn g w i < g .t)
+    pub visit-tile : (i < g .m) × (tileIn g w i < g .t)
     visit-tile = (omega (arith, left, few), rw (go .stops i more) x-in)
 
     pub visit-ways : (d : ℕ) → d < 4 → bitOf (marksIn g stamp w i) (8 + d) ≡ true → WayRoom g (tileIn g w i) d
     visit-ways = rw (marks-are, go .stops i more) (used-room g shaped x x-in m es marked)
 
-    pub visit-room : n + length (branchesIn g stamp w i) ≤ g .t
+    pub visit-room : n + length (branchesIn g stamp w i) ≤ g .m
     visit-room = places
 
     pub visit-fits : getD w (tilesAt g + tileIn g w i) 0 < (stamp + 1) * 4096
@@ -215,20 +215,20 @@ module _ (g : Shape) (shaped : Shaped g) (stamp : ℕ) (j : Job) (net : Net) (ro
     abbrev v : ℕ
     v = marksIn g stamp w i % 256
 
-    here : i < g .t
+    here : i < g .m
     here = visit-tile .0
 
-    long : stopsAt g + g .t + g .t + g .t + g .t ≤ length w
+    long : stopsAt g + g .m + g .m + g .m + g .m ≤ length w
     long = omega (arith, go .outside .long)
 
     next-stops : (k : ℕ) → k < n + length (branchesIn g stamp w i) → getD (visited g stamp w i n) (stopsAt g + k) 0 ≡ stopAt j net k .tile
     next-stops k h =
         ⊎-elim
-        (λ a. old-tile (stopsAt g) (g .t) w i n ys r v here places long k a ∙ go .stops k a)
+        (λ a. old-tile (stopsAt g) (g .m) w i n ys r v here places long k a ∙ go .stops k a)
         (λ a.
         let e : n + (k - n) ≡ k = omega arith in
         ap (λ (p : ℕ). getD (visited g stamp w i n) (stopsAt g + p) 0) (sym e)
-        ∙ new-tile (stopsAt g) (g .t) w i n ys r v here places long (k - n) (omega arith)
+        ∙ new-tile (stopsAt g) (g .m) w i n ys r v here places long (k - n) (omega arith)
         ∙ ap (λ (y : Way). y .tile) (way-at (k - n) (omega (arith, kids)))
         ∙ ap (λ (p : ℕ). stopAt j net p .tile) e)
         (lt-or-ge k n)
@@ -236,12 +236,12 @@ module _ (g : Shape) (shaped : Shaped g) (stamp : ℕ) (j : Job) (net : Net) (ro
     next-above : (k : ℕ) → suc k < n + length (branchesIn g stamp w i) → getD (visited g stamp w i n) (aboveAt g + suc k) 0 ≡ getD (walk j net) k 0
     next-above k h =
         ⊎-elim
-        (λ a. old-edge (stopsAt g) (g .t) w i n ys r v here places long (suc k) a ∙ go .above k a)
+        (λ a. old-edge (stopsAt g) (g .m) w i n ys r v here places long (suc k) a ∙ go .above k a)
         (λ a.
         let e : n + (suc k - n) ≡ suc k = omega arith in
         let f : n - 1 + (suc k - n) ≡ k = omega (arith, more) in
         ap (λ (p : ℕ). getD (visited g stamp w i n) (aboveAt g + p) 0) (sym e)
-        ∙ new-edge (stopsAt g) (g .t) w i n ys r v here places long (suc k - n) (omega arith)
+        ∙ new-edge (stopsAt g) (g .m) w i n ys r v here places long (suc k - n) (omega arith)
         ∙ ap (λ (y : Way). y .edge) (way-at (suc k - n) (omega (arith, kids)))
         ∙ ap (λ (p : ℕ). getD (walk j net) p 0) f)
         (lt-or-ge (suc k) n)
@@ -249,19 +249,19 @@ module _ (g : Shape) (shaped : Shaped g) (stamp : ℕ) (j : Job) (net : Net) (ro
     next-ends : (k : ℕ) → k < suc i → getD (visited g stamp w i n) (engineAt g + k) 0 ≡ firstAt j net (suc k)
     next-ends k h =
         ⊎-elim
-        (λ a. old-end (stopsAt g) (g .t) w i n ys r v here places long k a ∙ go .ends k a)
+        (λ a. old-end (stopsAt g) (g .m) w i n ys r v here places long k a ∙ go .ends k a)
         (λ a.
         let e : k ≡ i = omega arith in
-        rw e (new-end (stopsAt g) (g .t) w i n ys r v here places long ∙ next))
+        rw e (new-end (stopsAt g) (g .m) w i n ys r v here places long ∙ next))
         (lt-or-ge k i)
 
-    next-pins : (k : ℕ) → k < suc i → getD (visited g stamp w i n) (engineAt g + g .t + k) 0 ≡ bitsAt stamp (tilesOf g w₀) (stopAt j net k .tile) % 256
+    next-pins : (k : ℕ) → k < suc i → getD (visited g stamp w i n) (engineAt g + g .m + k) 0 ≡ bitsAt stamp (tilesOf g w₀) (stopAt j net k .tile) % 256
     next-pins k h =
         ⊎-elim
-        (λ a. old-pins (stopsAt g) (g .t) w i n ys r v here places long k a ∙ go .pins k a)
+        (λ a. old-pins (stopsAt g) (g .m) w i n ys r v here places long k a ∙ go .pins k a)
         (λ a.
         let e : k ≡ i = omega arith in
-        rw e (new-pins (stopsAt g) (g .t) w i n ys r v here places long ∙ ap (λ (p : ℕ). p % 256) marks-are))
+        rw e (new-pins (stopsAt g) (g .m) w i n ys r v here places long ∙ ap (λ (p : ℕ). p % 256) marks-are))
         (lt-or-ge k i)
 
     pub going-next : (w′ : List ℕ) (n′ : ℕ) → n′ ≡ n + length (branchesIn g stamp w i) → w′ ≡ visited g stamp w i n → Going g stamp j net w₀ w′ (i + 1) n′
@@ -269,11 +269,11 @@ module _ (g : Shape) (shaped : Shaped g) (stamp : ℕ) (j : Job) (net : Net) (ro
       taken = omega (arith, left);
       written = next;
       stops = next-stops;
-      none-above = old-edge (stopsAt g) (g .t) w i n ys r v here places long 0 (omega arith) ∙ go .none-above;
+      none-above = old-edge (stopsAt g) (g .m) w i n ys r v here places long 0 (omega arith) ∙ go .none-above;
       above = next-above;
       ends = next-ends;
       pins = next-pins;
-      outside = outside-then (stopsAt g) (4 * g .t) w₀ w (visited g stamp w i n) (go .outside) (after-outside (stopsAt g) (g .t) w i n ys r v here places long);
+      outside = outside-then (stopsAt g) (4 * g .m) w₀ w (visited g stamp w i n) (go .outside) (after-outside (stopsAt g) (g .m) w i n ys r v here places long);
     })
 
   -- ---- none is left

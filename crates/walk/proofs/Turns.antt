@@ -32,7 +32,7 @@ and-false false = refl
 module _ (g : Shape) (x m a : ℕ) where
   -- what `step` ensures of way d
   abbrev pub Stepped : ℕ → ℕ → List ℕ → List ℕ → ℕ → Type 0
-  Stepped d n w w′ r = (r ≡ n + length (onward g x m a (d ∷ []))) × (w′ ≡ putWays (stopsAt g) (g .t) w n (onward g x m a (d ∷ [])))
+  Stepped d n w w′ r = (r ≡ n + length (onward g x m a (d ∷ []))) × (w′ ≡ putWays (stopsAt g) (g .m) w n (onward g x m a (d ∷ [])))
 
   none : (d n : ℕ) (w : List ℕ) → goes g x m a d ≡ false → Stepped d n w w n
   none d n w e = rw e (omega arith, refl)
@@ -54,7 +54,7 @@ module _ (g : Shape) (x m a : ℕ) where
   step-on d n w b y h e s u p q = rw (on d b y h e, p, q, h) (refl, refl)
 
   pub step-long : (d n : ℕ) (w w′ : List ℕ) (r : ℕ) → Stepped d n w w′ r → length w′ ≡ length w
-  step-long d n w w′ r s = ap length (s .1) ∙ puts-long (stopsAt g) (g .t) w n (onward g x m a (d ∷ []))
+  step-long d n w w′ r s = ap length (s .1) ∙ puts-long (stopsAt g) (g .m) w n (onward g x m a (d ∷ []))
 
   -- ---- the ways from d on
 
@@ -75,9 +75,9 @@ module _ (g : Shape) (x m a : ℕ) where
   -- the ways from d on, written to w from place n on, give w′ and end at r
   pub record Left (d n : ℕ) (w : List ℕ) (r : ℕ) (w′ : List ℕ) : Type 0 where
     pub end : n + length (onward g x m a (upFrom d (4 - d))) ≡ r
-    pub list : putWays (stopsAt g) (g .t) w n (onward g x m a (upFrom d (4 - d))) ≡ w′
+    pub list : putWays (stopsAt g) (g .m) w n (onward g x m a (upFrom d (4 - d))) ≡ w′
 
-  pub left-all : (n : ℕ) (w : List ℕ) → Left 0 n w (n + length (onward g x m a (upFrom 0 4))) (putWays (stopsAt g) (g .t) w n (onward g x m a (upFrom 0 4)))
+  pub left-all : (n : ℕ) (w : List ℕ) → Left 0 n w (n + length (onward g x m a (upFrom 0 4))) (putWays (stopsAt g) (g .m) w n (onward g x m a (upFrom 0 4)))
   left-all n w = record { end = refl; list = refl }
 
   module _ (d n : ℕ) (w : List ℕ) (r : ℕ) (w′ : List ℕ) (h : d < 4) (l : Left d n w r w′) where
@@ -91,8 +91,8 @@ module _ (g : Shape) (x m a : ℕ) where
         (record {
           end = omega (arith, l .end, ap length (next d h), length-append (onward g x m a (d ∷ [])) (onward g x m a (upFrom (d + 1) (4 - (d + 1)))));
           list =
-              sym (puts-append (stopsAt g) (g .t) w n (onward g x m a (d ∷ [])) (onward g x m a (upFrom (d + 1) (4 - (d + 1)))))
-              ∙ ap (putWays (stopsAt g) (g .t) w n) (sym (next d h))
+              sym (puts-append (stopsAt g) (g .m) w n (onward g x m a (d ∷ [])) (onward g x m a (upFrom (d + 1) (4 - (d + 1)))))
+              ∙ ap (putWays (stopsAt g) (g .m) w n) (sym (next d h))
               ∙ l .list;
         })
 
@@ -100,5 +100,5 @@ module _ (g : Shape) (x m a : ℕ) where
   left-done d n w r w′ h l =
       let e : 4 - d ≡ 0 = omega arith in (
         omega (arith, l .end, ap (λ (k : ℕ). length (onward g x m a (upFrom d k))) e),
-        ap (λ (k : ℕ). putWays (stopsAt g) (g .t) w n (onward g x m a (upFrom d k))) (sym e) ∙ l .list,
+        ap (λ (k : ℕ). putWays (stopsAt g) (g .m) w n (onward g x m a (upFrom d k))) (sym e) ∙ l .list,
       )

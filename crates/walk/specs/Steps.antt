@@ -48,5 +48,5 @@ branchesIn g stamp w i = onward g (tileIn g w i) (marksIn g stamp w i) (aboveIn 
 -- the working numbers after its branches are written from place n on, and then where they end and the pins of the tile
 abbrev pub visited : Shape → ℕ → List ℕ → ℕ → ℕ → List ℕ
 visited g stamp w i n =
-    set (set (putWays (stopsAt g) (g .t) w n (branchesIn g stamp w i)) (engineAt g + i) (n + length (branchesIn g stamp w i)))
-    (engineAt g + g .t + i) (marksIn g stamp w i % 256)
+    set (set (putWays (stopsAt g) (g .m) w n (branchesIn g stamp w i)) (engineAt g + i) (n + length (branchesIn g stamp w i)))
+    (engineAt g + g .m + i) (marksIn g stamp w i % 256)

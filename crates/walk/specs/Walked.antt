@@ -38,6 +38,6 @@ pub record Walked (g : Shape) (j : Job) (net : Net) (w w′ : List ℕ) (r : ℕ
   -- the end of the branches of place i is where those of the next begin
   pub ends : (i : ℕ) → i ≤ length (net .edges) → getD w′ (engineAt g + i) 0 ≡ firstAt j net (suc i)
   -- bit l − 1 is a pin on layer l
-  pub pins-small : (i : ℕ) → i ≤ length (net .edges) → getD w′ (engineAt g + g .t + i) 0 < 256
-  pub pins : (i : ℕ) → i ≤ length (net .edges) → (l : ℕ) → 1 ≤ l → l ≤ 8 → bitOf (getD w′ (engineAt g + g .t + i) 0) (l - 1) ≡ has (pinsAt j net i) l
-  pub outside : Outside (stopsAt g) (4 * g .t) w w′
+  pub pins-small : (i : ℕ) → i ≤ length (net .edges) → getD w′ (engineAt g + g .m + i) 0 < 256
+  pub pins : (i : ℕ) → i ≤ length (net .edges) → (l : ℕ) → 1 ≤ l → l ≤ 8 → bitOf (getD w′ (engineAt g + g .m + i) 0) (l - 1) ≡ has (pinsAt j net i) l
+  pub outside : Outside (stopsAt g) (4 * g .m) w w′

@@ -19,9 +19,9 @@ fn step(w: &mut [u32], g: Shape, x: usize, m: u32, above: usize, d: usize, n: us
     requires { ⌜ areasEnd g ≤ length (now w) ⌝ }
     requires { ⌜ d < 4 ⌝ }
     requires { ⌜ (bitOf m (8 + d) ≡ true → WayRoom g x d) ⌝ }
-    requires { ⌜ n + length (onward g x m above (d ∷ [])) ≤ g .t ⌝ }
+    requires { ⌜ n + length (onward g x m above (d ∷ [])) ≤ g .m ⌝ }
     ensures { λ r. ⌜ r ≡ n + length (onward g x m above (d ∷ [])) ⌝ }
-    ensures { λ _. ⌜ now (w .exit) ≡ putWays (stopsAt g) (g .t) (now (w .entry)) n (onward g x m above (d ∷ [])) ⌝ }
+    ensures { λ _. ⌜ now (w .exit) ≡ putWays (stopsAt g) (g .m) (now (w .entry)) n (onward g x m above (d ∷ [])) ⌝ }
 {
     if !marks::bit(m, (marks::WAYS + d) as u32) {
         return n;
@@ -40,9 +40,9 @@ fn branches(w: &mut [u32], g: Shape, x: usize, m: u32, above: usize, n: usize) -
     requires { ⌜ Shaped g ⌝ }
     requires { ⌜ areasEnd g ≤ length (now w) ⌝ }
     requires { ⌜ ((d : ℕ) → d < 4 → bitOf m (8 + d) ≡ true → WayRoom g x d) ⌝ }
-    requires { ⌜ n + length (onward g x m above fourWays) ≤ g .t ⌝ }
+    requires { ⌜ n + length (onward g x m above fourWays) ≤ g .m ⌝ }
     ensures { λ r. ⌜ r ≡ n + length (onward g x m above fourWays) ⌝ }
-    ensures { λ _. ⌜ now (w .exit) ≡ putWays (stopsAt g) (g .t) (now (w .entry)) n (onward g x m above fourWays) ⌝ }
+    ensures { λ _. ⌜ now (w .exit) ≡ putWays (stopsAt g) (g .m) (now (w .entry)) n (onward g x m above fourWays) ⌝ }
 {
     let mut end = n;
     for d in 0..4 {
@@ -68,9 +68,9 @@ fn latest_bits(word: u32, stamp: u32) -> u32
 fn visit(w: &mut [u32], g: Shape, stamp: u32, i: usize, n: usize) -> usize
     requires { ⌜ Shaped g ⌝ }
     requires { ⌜ areasEnd g ≤ length (now w) ⌝ }
-    requires { ⌜ (i < g .t) × (tileIn g (now w) i < g .t) ⌝ }
+    requires { ⌜ (i < g .m) × (tileIn g (now w) i < g .t) ⌝ }
     requires { ⌜ ((d : ℕ) → d < 4 → bitOf (marksIn g stamp (now w) i) (8 + d) ≡ true → WayRoom g (tileIn g (now w) i) d) ⌝ }
-    requires { ⌜ n + length (branchesIn g stamp (now w) i) ≤ g .t ⌝ }
+    requires { ⌜ n + length (branchesIn g stamp (now w) i) ≤ g .m ⌝ }
     requires { ⌜ (stamp ≤ 8192) × (getD (now w) (tilesAt g + tileIn g (now w) i) 0 < (stamp + 1) * 4096) ⌝ }
     ensures { λ r. ⌜ r ≡ n + length (branchesIn g stamp (now (w .entry)) i) ⌝ }
     ensures { λ _. ⌜ now (w .exit) ≡ visited g stamp (now (w .entry)) i n ⌝ }
@@ -80,7 +80,7 @@ fn visit(w: &mut [u32], g: Shape, stamp: u32, i: usize, n: usize) -> usize
     let m = latest_bits(w[layout::tiles_at(g) + x], stamp);
     let end = branches(w, g, x, m, above, n);
     w[layout::engine_at(g) + i] = end as u32;
-    w[layout::engine_at(g) + g.t + i] = m % 256;
+    w[layout::engine_at(g) + g.m + i] = m % 256;
     end
 }
 

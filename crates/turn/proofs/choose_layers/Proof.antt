@@ -56,7 +56,7 @@ module _ (c : tie.After-place) where
   z = p .before .before .before
 
   placed : (u : Turn) (stamp : ℕ) → NetWalked (z .args .g) stamp (z .args .n) (z .args .w .now) u → ((e : ℕ) → limitAt (z .args .limits) e ≡ turnLimit u e)
-      → Placed (λ l. l) (u .job) (turnNet u) (legal (u .job) (u .plan)) (engineOf (z .args .g) (p .put-legal .last .0)) (engineOf (z .args .g) (c .place .last .0)) (z .args .g .t) (c .place .result)
+      → Placed (λ l. l) (u .job) (turnNet u) (legal (u .job) (u .plan)) (engineOf (z .args .g) (p .put-legal .last .0)) (engineOf (z .args .g) (c .place .last .0)) (z .args .g .m) (c .place .result)
   placed u stamp h e =
       c .place .ensures .0 (u .job) (turnNet u) (legal (u .job) (u .plan))
       (holds (z .args .g) (z .pre .1 .0) (z .args .n) (z .args .w .now) (z .pre .1 .1 .0) stamp u h (limitAt (z .args .limits)) e (p .put-legal .last .0) (p .put-legal .ensures))

@@ -12,7 +12,7 @@ place-layers-requires c κs =
     let z = c .before .before .before .before in
     let x = z .args in
     let from = c .before .before .engine-at in
-    (z .pre .0, lent-holds (x .g) (x .n) (x .w .now) (z .pre .1 .1 .0) (z .pre .1 .1 .1) (from .result) (from .result + 12 * x .g .t) (from .ensures .0) (omega (arith, from .ensures .0)))
+    (z .pre .0, lent-holds (x .g) (x .n) (x .w .now) (z .pre .1 .1 .0) (z .pre .1 .1 .1) (from .result) (from .result + 12 * x .g .m) (from .ensures .0) (omega (arith, from .ensures .0)))
 
 returns : tie.Need-returns
 returns c =
@@ -20,7 +20,7 @@ returns c =
     let x = z .args in
     let from = c .before .before .before .before .before .engine-at in
     let m = c .before .before .place-layers in
-    put-back (x .g) (x .n) (x .w .now) (z .pre .1 .1 .0) (z .pre .1 .1 .1) (from .result) (from .result + 12 * x .g .t) (from .ensures .0) (omega (arith, from .ensures .0))
+    put-back (x .g) (x .n) (x .w .now) (z .pre .1 .1 .0) (z .pre .1 .1 .1) (from .result) (from .result + 12 * x .g .m) (from .ensures .0) (omega (arith, from .ensures .0))
     (m .last .0) (m .result) (m .ensures)
 
 pub place-spec : {M : Type 1} → statement M

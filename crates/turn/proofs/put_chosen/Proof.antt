@@ -26,7 +26,7 @@ module _ (d : tie.After-chosen-at Inv-loop μ-loop) where
   a = d .before .before .before .above-at .result
 
   abbrev b : ℕ
-  b = d .before .before .engine-at .result + 3 * s .args .g .t
+  b = d .before .before .engine-at .result + 3 * s .args .g .m
 
   a-is : a ≡ aboveAt (s .args .g)
   a-is = d .before .before .before .above-at .ensures .0

@@ -14,7 +14,7 @@ use Rattle.walk.proofs.branches.Tie as tie
 abbrev Inv-loop : tie.InvT-loop
 Inv-loop w₀ g x m above n end₀ d₀ w end d =
     (d ≤ 4) × (length w ≡ length w₀)
-    × Left g x m above d end w (n + length (onward g x m above fourWays)) (putWays (stopsAt g) (g .t) w₀ n (onward g x m above fourWays))
+    × Left g x m above d end w (n + length (onward g x m above fourWays)) (putWays (stopsAt g) (g .m) w₀ n (onward g x m above fourWays))
 
 abbrev μ-loop : tie.MeasureT-loop
 μ-loop w₀ g x m above n end₀ d₀ w end d = 4 - d

@@ -69,7 +69,7 @@ module _ (p : tie.After-branches) where
 
   done : (v v′ : ℕ) → v ≡ engineAt (k .args .g) → v′ ≡ engineAt (k .args .g)
       → (p .branches .result ≡ k .args .n + length (branchesIn (k .args .g) (k .args .stamp) (k .args .w .now) (k .args .i)))
-      × (set (set (p .branches .last .0) (v + k .args .i) (p .branches .result)) (v′ + k .args .g .t + k .args .i) (b .latest-bits .result % 256) ≡ visited (k .args .g) (k .args .stamp) (k .args .w .now) (k .args .i) (k .args .n))
+      × (set (set (p .branches .last .0) (v + k .args .i) (p .branches .result)) (v′ + k .args .g .m + k .args .i) (b .latest-bits .result % 256) ≡ visited (k .args .g) (k .args .stamp) (k .args .w .now) (k .args .i) (k .args .n))
   done =
       visit-done (k .args .g) (k .args .stamp) (k .args .w .now) (k .args .i) (k .args .n)
       (s .stops-at .result) (u .above-at .result) (q .tiles-at .result) (b .latest-bits .result) (s .stops-at .ensures .0) (u .above-at .ensures .0) (q .tiles-at .ensures .0) (b .latest-bits .ensures .0)

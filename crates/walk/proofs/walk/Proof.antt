@@ -18,7 +18,7 @@ abbrev Inv-loop : tie.InvT-loop
 Inv-loop w₀ g stamp root n₀ i₀ w n i = (j : Job) (net : Net) (e : List ℕ) → Begun g stamp j net root e w₀ → Going g stamp j net e w i n
 
 abbrev μ-loop : tie.MeasureT-loop
-μ-loop w₀ g stamp root n₀ i₀ w n i = g .t - i
+μ-loop w₀ g stamp root n₀ i₀ w n i = g .m - i
 
 cast-w : tie.Need-cast-w Inv-loop μ-loop
 cast-w c =
@@ -57,7 +57,7 @@ module _ (l : tie.At-loop Inv-loop μ-loop) where
   now-going : Going (k .args .g) (k .args .stamp) (ready .job) (ready .net) (k .args .w .now) (l .loop .w) (l .loop .i) (l .loop .n)
   now-going = going (ready .job) (ready .net) (ready .walks)
 
-  in-grid : l .loop .i < l .loop .n → (l .loop .i < k .args .g .t) × (tileIn (k .args .g) (l .loop .w) (l .loop .i) < k .args .g .t)
+  in-grid : l .loop .i < l .loop .n → (l .loop .i < k .args .g .m) × (tileIn (k .args .g) (l .loop .w) (l .loop .i) < k .args .g .t)
   in-grid = visit-tile (k .args .g) (k .pre .0) (k .args .stamp) (ready .job) (ready .net) (k .args .root) (k .args .w .now) (k .pre .1 .0) (ready .walks) (l .loop .w) (l .loop .i) (l .loop .n) now-going
 
 visit-requires : tie.Need-visit-requires Inv-loop μ-loop
