@@ -12,6 +12,7 @@ use Rattle.layout.specs.Table.{turnColumn, tableSize}
 use Rattle.model.specs.Calls.{refusal, outcomeOf, outcome, overwrite, stretches, plannedBy, Planned as PlannedBy, planLent, planCall, printedBy, Printed as PrintedBy, printLent, printCall}
 use Rattle.model.specs.Demand3.{Met}
 use Rattle.model.specs.Job.{Job, netCount, netEdges, entryCount}
+use Rattle.model.specs.Limits.{mostNets}
 use Rattle.model.specs.Overflow.{totalOverflow, maxOverflow}
 use Rattle.model.specs.Plan.{plan}
 use Rattle.model.specs.Read.{Lent, Place, Result, refused, found, printNeed, printFits, read}
@@ -46,7 +47,7 @@ rows-listed s j es table (suc k) t = table-set s j (listed es table k) (turnColu
 
 module _ (s : List ℕ) (lent : Lent) (w table : List ℕ) (ys os : List Entry) where
   -- what is asked where it is made
-  pub arrange-asked : (o : Opened) → lent .order ≡ length ys → OpenTold s lent w table o → (netsOf o ≤ 4096) × (netsOf o ≤ length ys)
+  pub arrange-asked : (o : Opened) → lent .order ≡ length ys → OpenTold s lent w table o → (netsOf o ≤ mostNets) × (netsOf o ≤ length ys)
   arrange-asked (Refused r) e k = (omega arith, omega arith)
   arrange-asked (Read-as h) e k =
       let acc = accepted lent s (k .job) (k .place) (k .is) in

@@ -15,7 +15,7 @@ pub fn plan(text: &[u8], work: &mut [u32], order: &mut [Entry], answer: &mut [u8
     ensures { λ r. ⌜ record { returned = returnedOf r; buffers = buffersOf (now (work .exit)) (now (order .exit)) (now (answer .exit)) } ≡ planCall (now (text .entry)) (buffersOf (now (work .entry)) (now (order .entry)) (now (answer .entry))) ⌝ }
     ensures { λ r. ⌜ ((j : Job) (p : Place) → read (planLent (buffersOf (now (work .entry)) (now (order .entry)) (now (answer .entry)))) (now (text .entry)) ≡ found j p → Met j (returnedOf r) (buffersOf (now (work .exit)) (now (order .exit)) (now (answer .exit)))) ⌝ }
 {
-    let mut table = [0u32; 24576];
+    let mut table = [0u32; layout::TABLE];
     let job = planning::open_plan(text, work, &mut table, order.len(), answer.len());
     let nets = planning::nets_of(job);
     sort::arrange(order, &mut table, nets);
@@ -33,7 +33,7 @@ pub fn print(
     ensures { λ r. ⌜ record { returned = returnedOf (planOf r); length = sizeOf r; buffers = buffersOf (now (work .exit)) (now (order .exit)) (now (answer .exit)); print = now (out .exit) } ≡ printCall (now (text .entry)) (buffersOf (now (work .entry)) (now (order .entry)) (now (answer .entry))) (now (out .entry)) ⌝ }
     ensures { λ r. ⌜ ((j : Job) (p : Place) → read (printLent (buffersOf (now (work .entry)) (now (order .entry)) (now (answer .entry))) (now (out .entry))) (now (text .entry)) ≡ found j p → Met j (returnedOf (planOf r)) (buffersOf (now (work .exit)) (now (order .exit)) (now (answer .exit)))) ⌝ }
 {
-    let mut table = [0u32; 24576];
+    let mut table = [0u32; layout::TABLE];
     let job = planning::open_print(text, work, &mut table, order.len(), answer.len(), out.len());
     let nets = planning::nets_of(job);
     sort::arrange(order, &mut table, nets);

@@ -164,6 +164,6 @@ fn run(t: &mut [u8], w: &mut [u32], table: &mut [u32])
 fn main() {
     let mut t = [0u8; 1048704];
     let mut w = [0u32; 276224];
-    let mut table = [0u32; 24576];
+    let mut table = [0u32; layout::TABLE];
     run(&mut t, &mut w, &mut table);
 }

@@ -5,10 +5,10 @@ use Prim.Native.Nat.{ℕ, zero, suc, _+_, _-_, _*_, _≤_}
 use native.Mathlib.Nat.{mul-le-mul, mul-le-mul-left, mul-le-mul-right}
 use native.Mathlib.Omega.{arith}
 use Rattle.model.specs.Grid.{gridEdges}
-use Rattle.layout.specs.Shapes.{shapeOf, Shaped}
+use Rattle.layout.specs.Shapes.{shapeOf, Shaped, mostTiles}
 
 -- a product of two numbers from 1 to 64
-pub product : (a b : ℕ) → a ≤ 64 → b ≤ 64 → a * b ≤ 4096
+pub product : (a b : ℕ) → a ≤ 64 → b ≤ 64 → a * b ≤ mostTiles
 product a b h k = mul-le-mul h k
 
 pub less-one : (a b : ℕ) → a ≤ 64 → b ≤ 64 → (a - 1) * b ≤ 4032

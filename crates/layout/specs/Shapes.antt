@@ -20,6 +20,10 @@ stackOf k = cond (ltb k leastLayers) Outside (cond (ltb mostLayers k) Outside (s
 abbrev pub shapeOf : ℕ → ℕ → ℕ → Shape
 shapeOf W H K = record { w = W; h = H; k = K; t = tiles W H; m = tiles W H; east = eastCount W H; e = gridEdges W H }
 
+-- the most tiles of a grid
+abbrev pub mostTiles : ℕ
+mostTiles = mostSide * mostSide
+
 -- a shape of sizes within document 01's limits, and how large its numbers can be
 pub record Shaped (g : Shape) : Type 0 where
   pub w-least : leastSide ≤ g .w
@@ -33,7 +37,7 @@ pub record Shaped (g : Shape) : Type 0 where
   pub e-is : g .e ≡ gridEdges (g .w) (g .h)
   pub m-is : g .m ≡ g .t
   pub t-least : 1 ≤ g .t
-  pub t-most : g .t ≤ 4096
+  pub t-most : g .t ≤ mostTiles
   pub east-most : g .east ≤ g .e
   pub e-most : g .e ≤ 8064
   pub e-tiles : g .e ≤ 2 * g .t

@@ -1,38 +1,43 @@
--- The net table: six numbers for each net, counted from 0.
+-- The net table: a row of numbers for each net, counted from 0.
 -- Assumes nothing.
 use mathlib.Core.List.{List}
 use Prim.Native.Nat.{ℕ, _+_, _*_, _/_, _%_}
 use lib.ListN.{getD, set}
+use Rattle.model.specs.Limits.{mostNets}
+
+-- the numbers of a row
+abbrev pub netColumns : ℕ
+netColumns = 6
+
+-- a row for each net that a job can have
+abbrev pub tableSize : ℕ
+tableSize = netColumns * mostNets
 
 -- the place in the text after `pins=`, and after `edges=`
 abbrev pub pinsColumn : ℕ → ℕ
-pinsColumn i = 6 * i
+pinsColumn i = netColumns * i
 
 abbrev pub edgesColumn : ℕ → ℕ
-edgesColumn i = 6 * i + 1
+edgesColumn i = netColumns * i + 1
 
 -- the entries of the `pins` line
 abbrev pub entriesColumn : ℕ → ℕ
-entriesColumn i = 6 * i + 2
+entriesColumn i = netColumns * i + 2
 
 -- the net whose turn is i, once the order list stands: it takes the place of the entries
 abbrev pub turnColumn : ℕ → ℕ
-turnColumn i = 6 * i + 2
+turnColumn i = netColumns * i + 2
 
 -- the place of the net's first layer in the answer list, and the entries of its `edges` line
 abbrev pub firstColumn : ℕ → ℕ
-firstColumn i = 6 * i + 3
+firstColumn i = netColumns * i + 3
 
 abbrev pub countColumn : ℕ → ℕ
-countColumn i = 6 * i + 4
+countColumn i = netColumns * i + 4
 
 -- the vias of the net, once it is placed
 abbrev pub viasColumn : ℕ → ℕ
-viasColumn i = 6 * i + 5
-
--- for 4,096 nets
-abbrev pub tableSize : ℕ
-tableSize = 24_576
+viasColumn i = netColumns * i + 5
 
 -- the score of net i, in halves, from when it is known to when the order list stands
 abbrev pub scoreIn : List ℕ → ℕ → ℕ

@@ -1,6 +1,7 @@
 // The stack of layers, the grid of tiles, and where each thing stands in the working numbers.
 ghost use mathlib.Core.Path.{_≡_};
 ghost use Prim.Native.Nat.{ℕ, _+_, _-_, _*_, _<_, _≤_};
+ghost use Rattle.model.specs.Limits.{mostNets};
 ghost use Rattle.model.specs.Read.{workingNeed};
 ghost use Rattle.layout.specs.Shapes.{stackOf, shapeOf, Shaped, wayOf, WayRoom};
 ghost use Rattle.layout.specs.Areas.{loadsAt, demandAt, flatAt, tilesAt, linksAt, chosenAt, listAt, stopsAt, aboveAt, engineAt};
@@ -34,6 +35,9 @@ impl Stack {
         Made::Stack(Stack { layers: k })
     }
 }
+
+// The most tiles of a grid.
+pub const TILES: usize = 4096;
 
 // W, H and K; T tiles, room for m places of a walk, the edges that go east, and E edges in all.
 pub struct Shape {
@@ -216,7 +220,13 @@ pub fn engine_at(g: Shape) -> usize
     above_at(g) + g.m
 }
 
-// ---- the net table: six numbers for each net
+// ---- the net table: a row of numbers for each net
+
+// The numbers of a row.
+const COLUMNS: usize = 6;
+
+// The length of the table: a row for each of 4,096 nets.
+pub const TABLE: usize = 24576;
 
 // A stored number as a place or a count.
 pub fn index(x: u32) -> usize
@@ -227,65 +237,65 @@ pub fn index(x: u32) -> usize
 
 // The place in the text after `pins=`.
 pub fn pins_column(i: usize) -> usize
-    requires { ⌜ i < 4096 ⌝ }
+    requires { ⌜ i < mostNets ⌝ }
     ensures { λ r. ⌜ r ≡ pinsColumn i ⌝ }
-    ensures { λ r. ⌜ r < 24576 ⌝ }
+    ensures { λ r. ⌜ r < tableSize ⌝ }
 {
-    6 * i
+    COLUMNS * i
 }
 
 // The place in the text after `edges=`.
 pub fn edges_column(i: usize) -> usize
-    requires { ⌜ i < 4096 ⌝ }
+    requires { ⌜ i < mostNets ⌝ }
     ensures { λ r. ⌜ r ≡ edgesColumn i ⌝ }
-    ensures { λ r. ⌜ r < 24576 ⌝ }
+    ensures { λ r. ⌜ r < tableSize ⌝ }
 {
-    6 * i + 1
+    COLUMNS * i + 1
 }
 
 // The entries of the `pins` line.
 pub fn entries_column(i: usize) -> usize
-    requires { ⌜ i < 4096 ⌝ }
+    requires { ⌜ i < mostNets ⌝ }
     ensures { λ r. ⌜ r ≡ entriesColumn i ⌝ }
-    ensures { λ r. ⌜ r < 24576 ⌝ }
+    ensures { λ r. ⌜ r < tableSize ⌝ }
 {
-    6 * i + 2
+    COLUMNS * i + 2
 }
 
 // The place of the net's first layer in the answer list.
 pub fn first_column(i: usize) -> usize
-    requires { ⌜ i < 4096 ⌝ }
+    requires { ⌜ i < mostNets ⌝ }
     ensures { λ r. ⌜ r ≡ firstColumn i ⌝ }
-    ensures { λ r. ⌜ r < 24576 ⌝ }
+    ensures { λ r. ⌜ r < tableSize ⌝ }
 {
-    6 * i + 3
+    COLUMNS * i + 3
 }
 
 // The entries of the `edges` line.
 pub fn count_column(i: usize) -> usize
-    requires { ⌜ i < 4096 ⌝ }
+    requires { ⌜ i < mostNets ⌝ }
     ensures { λ r. ⌜ r ≡ countColumn i ⌝ }
-    ensures { λ r. ⌜ r < 24576 ⌝ }
+    ensures { λ r. ⌜ r < tableSize ⌝ }
 {
-    6 * i + 4
+    COLUMNS * i + 4
 }
 
 // The net whose turn is i, once the order list stands: it takes the place of the entries of the `pins` line.
 pub fn turn_column(i: usize) -> usize
-    requires { ⌜ i < 4096 ⌝ }
+    requires { ⌜ i < mostNets ⌝ }
     ensures { λ r. ⌜ r ≡ turnColumn i ⌝ }
-    ensures { λ r. ⌜ r < 24576 ⌝ }
+    ensures { λ r. ⌜ r < tableSize ⌝ }
 {
-    6 * i + 2
+    COLUMNS * i + 2
 }
 
 // The vias of the net, once it is placed.
 pub fn vias_column(i: usize) -> usize
-    requires { ⌜ i < 4096 ⌝ }
+    requires { ⌜ i < mostNets ⌝ }
     ensures { λ r. ⌜ r ≡ viasColumn i ⌝ }
-    ensures { λ r. ⌜ r < 24576 ⌝ }
+    ensures { λ r. ⌜ r < tableSize ⌝ }
 {
-    6 * i + 5
+    COLUMNS * i + 5
 }
 
 // ---- the score of a net, from when it is known to when the order list stands: its halves take the places of the entries of the `pins` line and of the vias
@@ -297,7 +307,7 @@ fn wide(x: u32) -> u64
 }
 
 pub fn score_in(table: &[u32], i: usize) -> u64
-    requires { ⌜ (i < 4096) × (tableSize ≤ length (now table)) ⌝ }
+    requires { ⌜ (i < mostNets) × (tableSize ≤ length (now table)) ⌝ }
     ensures { λ r. ⌜ r ≡ scoreIn (now (table .entry)) i ⌝ }
 {
     let low = wide(table[entries_column(i)]);
@@ -306,7 +316,7 @@ pub fn score_in(table: &[u32], i: usize) -> u64
 }
 
 pub fn put_score(table: &mut [u32], i: usize, v: u64)
-    requires { ⌜ (i < 4096) × (tableSize ≤ length (now table)) ⌝ }
+    requires { ⌜ (i < mostNets) × (tableSize ≤ length (now table)) ⌝ }
     ensures { λ _. ⌜ now (table .exit) ≡ scorePut (now (table .entry)) i v ⌝ }
 {
     table[entries_column(i)] = (v % 4294967296) as u32;

@@ -7,7 +7,7 @@ use Prim.Native.Nat.{ℕ, _+_, _*_, _^_}
 use borrow.Author.Tests.{eq-eqb, ne-eqb}
 use lib.ListN.{getD, set}
 use Rattle.marks.specs.Marks.{bitsAt, marked, putOf, marksAfter}
-use Rattle.marks.specs.Words.{bitsIn, bitOf}
+use Rattle.marks.specs.Words.{bitsIn, bitOf, stampUnit}
 use Rattle.marks.specs.declared.Put.the-variants.{Twice, Fresh, Known}
 
 module _ (n : ℕ) (a : List ℕ) (t i m : ℕ) (m-is : m ≡ bitsIn n (getD a t 0)) (q : Bool) (q-is : q ≡ bitOf m i) where
@@ -22,14 +22,14 @@ module _ (n : ℕ) (a : List ℕ) (t i m : ℕ) (m-is : m ≡ bitsIn n (getD a t
   put-twice e = (rw (found e), rw (found e))
 
   module _ (p : ℕ) (p-is : p ≡ 2 ^ i) (e : q ≡ false) where
-    stored : set a t (n * 4096 + (m + p)) ≡ marksAfter n a t i
+    stored : set a t (n * stampUnit + (m + p)) ≡ marksAfter n a t i
     unfolding marksAfter
-    stored = rw (missing e) (λ k. set a t (n * 4096 + (m-is k + p-is k)))
+    stored = rw (missing e) (λ k. set a t (n * stampUnit + (m-is k + p-is k)))
 
-    pub put-fresh : m ≡ 0 → (Fresh ≡ putOf n a t i) × (set a t (n * 4096 + (m + p)) ≡ marksAfter n a t i)
+    pub put-fresh : m ≡ 0 → (Fresh ≡ putOf n a t i) × (set a t (n * stampUnit + (m + p)) ≡ marksAfter n a t i)
     unfolding putOf
     put-fresh z = (rw (missing e, eq-eqb (bitsAt n a t) 0 (sym m-is ∙ z)), stored)
 
-    pub put-known : (m ≡ 0 → ⊥) → (Known ≡ putOf n a t i) × (set a t (n * 4096 + (m + p)) ≡ marksAfter n a t i)
+    pub put-known : (m ≡ 0 → ⊥) → (Known ≡ putOf n a t i) × (set a t (n * stampUnit + (m + p)) ≡ marksAfter n a t i)
     unfolding putOf
     put-known h = (rw (missing e, ne-eqb (bitsAt n a t) 0 (λ z. h (m-is ∙ z))), stored)

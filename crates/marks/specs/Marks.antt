@@ -10,7 +10,7 @@ use lib.Seq.{getD-set-same, getD-set-other}
 use borrow.Author.Tests.{eq-eqb, ne-eqb}
 use native.Mathlib.Decide.{ℕ-discrete, decLt}
 use native.Mathlib.Omega.{arith}
-use Rattle.marks.specs.Words.{bitsIn, bitOf, Fits, bits-small, bits-new, bits-old, bit-add, bit-room, bit-zero}
+use Rattle.marks.specs.Words.{bitsIn, bitOf, Fits, bits-small, bits-new, bits-old, bit-add, bit-room, bit-zero, stampUnit}
 use Rattle.marks.specs.declared.Put.{Put}
 use Rattle.marks.specs.declared.Put.the-variants.{Twice, Fresh, Known}
 
@@ -28,11 +28,11 @@ touched n a t = not (eqb (bitsAt n a t) 0)
 
 -- every stamp is earlier
 abbrev pub Older : ℕ → List ℕ → Type 0
-Older n a = (t : ℕ) → getD a t 0 < n * 4096
+Older n a = (t : ℕ) → getD a t 0 < n * stampUnit
 
 -- one more mark
 abbrev pub mark : ℕ → List ℕ → ℕ → ℕ → List ℕ
-mark n a t i = set a t (n * 4096 + (bitsAt n a t + 2 ^ i))
+mark n a t i = set a t (n * stampUnit + (bitsAt n a t + 2 ^ i))
 
 -- what marking finds, and what it leaves
 unfoldable pub putOf : ℕ → List ℕ → ℕ → ℕ → Put
@@ -48,10 +48,10 @@ module _ (n : ℕ) (a : List ℕ) (t i : ℕ) (room : t < length a) (i-small : i
   added = bit-room (bitsAt n a t) i 12 new (bits-small n (getD a t 0)) i-small
 
   pub bits-here : bitsAt n (mark n a t i) t ≡ bitsAt n a t + 2 ^ i
-  bits-here = rw (getD-set-same a t (n * 4096 + (bitsAt n a t + 2 ^ i)) 0 room) (bits-new n (bitsAt n a t + 2 ^ i) added)
+  bits-here = rw (getD-set-same a t (n * stampUnit + (bitsAt n a t + 2 ^ i)) 0 room) (bits-new n (bitsAt n a t + 2 ^ i) added)
 
   pub bits-there : (u : ℕ) → (u ≡ t → ⊥) → bitsAt n (mark n a t i) u ≡ bitsAt n a u
-  bits-there u h = rw (getD-set-other a t u (n * 4096 + (bitsAt n a t + 2 ^ i)) 0 h)
+  bits-there u h = rw (getD-set-other a t u (n * stampUnit + (bitsAt n a t + 2 ^ i)) 0 h)
 
   -- the marks are those before, and the new one
   pub mark-has : (u k : ℕ) → marked n (mark n a t i) u k ≡ ((eqb t u && eqb i k) || marked n a u k)
@@ -80,12 +80,12 @@ module _ (n : ℕ) (a : List ℕ) (t i : ℕ) (room : t < length a) (i-small : i
   pub mark-fits : Fits n a → Fits n (mark n a t i)
   mark-fits f u = go (ℕ-discrete u t)
     where
-      go : Dec (u ≡ t) → getD (mark n a t i) u 0 < (n + 1) * 4096
-      go (yes e) = rw (e, getD-set-same a t (n * 4096 + (bitsAt n a t + 2 ^ i)) 0 room) (omega (arith, added))
-      go (no h) = rw (getD-set-other a t u (n * 4096 + (bitsAt n a t + 2 ^ i)) 0 h) (f u)
+      go : Dec (u ≡ t) → getD (mark n a t i) u 0 < (n + 1) * stampUnit
+      go (yes e) = rw (e, getD-set-same a t (n * stampUnit + (bitsAt n a t + 2 ^ i)) 0 room) (omega (arith, added))
+      go (no h) = rw (getD-set-other a t u (n * stampUnit + (bitsAt n a t + 2 ^ i)) 0 h) (f u)
 
 pub mark-long : (n : ℕ) (a : List ℕ) (t i : ℕ) → length (mark n a t i) ≡ length a
-mark-long n a t i = length-set a t (n * 4096 + (bitsAt n a t + 2 ^ i))
+mark-long n a t i = length-set a t (n * stampUnit + (bitsAt n a t + 2 ^ i))
 
 -- the marks of a net are earlier ones to the next
 pub fits-older : (n : ℕ) (a : List ℕ) → Fits n a → Older (n + 1) a

@@ -10,10 +10,19 @@ use lib.ListN.{length, getD}
 use borrow.Author.Tests.{eq-eqb, ne-eqb, eqb-true, eqb-false}
 use native.Mathlib.Decide.{ℕ-discrete}
 use native.Mathlib.Omega.{arith}
+use Rattle.model.specs.Limits.{mostNets}
+
+-- the bits of a word are a number below this one, and its stamp stands above them
+abbrev pub stampUnit : ℕ
+stampUnit = 4_096
+
+-- a net has two stamps: one when it is read first, and one when it is placed
+abbrev pub mostStamp : ℕ
+mostStamp = 2 * mostNets
 
 -- the bits of a word at a stamp, none where its stamp is another one
 unfoldable pub bitsIn : ℕ → ℕ → ℕ
-bitsIn n w = cond (eqb (w / 4096) n) (w % 4096) 0
+bitsIn n w = cond (eqb (w / stampUnit) n) (w % stampUnit) 0
 
 -- bit i of m
 abbrev pub bitOf : ℕ → ℕ → Bool
@@ -22,30 +31,30 @@ bitOf m (suc i) = bitOf (m / 2) i
 
 -- no word has a stamp above n
 abbrev pub Fits : ℕ → List ℕ → Type 0
-Fits n a = (t : ℕ) → getD a t 0 < (n + 1) * 4096
+Fits n a = (t : ℕ) → getD a t 0 < (n + 1) * stampUnit
 
 -- ---- laws of a word
 
-pub bits-small : (n w : ℕ) → bitsIn n w < 4096
+pub bits-small : (n w : ℕ) → bitsIn n w < stampUnit
 unfolding bitsIn
-bits-small n w = go (eqb (w / 4096) n)
+bits-small n w = go (eqb (w / stampUnit) n)
   where
-    go : (q : Bool) → cond q (w % 4096) 0 < 4096
+    go : (q : Bool) → cond q (w % stampUnit) 0 < stampUnit
     go true = omega arith
     go false = omega arith
 
 -- a word that was written at the stamp has just the bits written
-pub bits-new : (n m : ℕ) → m < 4096 → bitsIn n (n * 4096 + m) ≡ m
+pub bits-new : (n m : ℕ) → m < stampUnit → bitsIn n (n * stampUnit + m) ≡ m
 unfolding bitsIn
 bits-new n m h =
-    let q : (n * 4096 + m) / 4096 ≡ n = omega arith in
-    let r : (n * 4096 + m) % 4096 ≡ m = omega arith in
+    let q : (n * stampUnit + m) / stampUnit ≡ n = omega arith in
+    let r : (n * stampUnit + m) % stampUnit ≡ m = omega arith in
     rw (eq-eqb _ _ q) r
 
 -- a word of an earlier stamp has none
-pub bits-old : (n w : ℕ) → w < n * 4096 → bitsIn n w ≡ 0
+pub bits-old : (n w : ℕ) → w < n * stampUnit → bitsIn n w ≡ 0
 unfolding bitsIn
-bits-old n w h = rw (ne-eqb (w / 4096) n (λ e. omega arith))
+bits-old n w h = rw (ne-eqb (w / stampUnit) n (λ e. omega arith))
 
 -- ---- laws of bits
 

@@ -4,8 +4,11 @@ ghost use mathlib.Core.Path.{_≡_};
 ghost use mathlib.Core.Bool.{cond};
 ghost use Prim.Native.Nat.{ℕ, _+_, _-_, _*_, _^_, _<_, _≤_};
 ghost use lib.ListN.{length, getD};
-ghost use Rattle.marks.specs.Words.{bitsIn, bitOf, Fits};
+ghost use Rattle.marks.specs.Words.{bitsIn, bitOf, Fits, mostStamp, stampUnit};
 ghost use Rattle.marks.specs.Marks.{marked, mark, putOf, marksAfter};
+
+// The bits of a word are a number below this one, and its stamp stands above them.
+pub const STAMP: u32 = 4096;
 
 // The first bit that stands for a way.
 pub const WAYS: usize = 8;
@@ -23,10 +26,10 @@ pub enum Put {
 // The bits of a word, none where its stamp is another one.
 pub fn bits(word: u32, stamp: u32) -> u32
     ensures { λ r. ⌜ r ≡ bitsIn stamp word ⌝ }
-    ensures { λ r. ⌜ r < 4096 ⌝ }
+    ensures { λ r. ⌜ r < stampUnit ⌝ }
 {
-    if word / 4096 == stamp {
-        return word % 4096;
+    if word / STAMP == stamp {
+        return word % STAMP;
     }
     0
 }
@@ -42,14 +45,14 @@ pub fn bit(m: u32, i: u32) -> bool
 fn power(i: u32) -> u32
     requires { ⌜ i < 12 ⌝ }
     ensures { λ r. ⌜ r ≡ 2 ^ i ⌝ }
-    ensures { λ r. ⌜ r < 4096 ⌝ }
+    ensures { λ r. ⌜ r < stampUnit ⌝ }
 {
     1u32 << i
 }
 
 // Marks bit i of tile t.
 pub fn set_mark(a: &mut [u32], stamp: u32, t: usize, i: u32) -> Put
-    requires { ⌜ (t < length (now a)) × (i < 12) × (stamp ≤ 8192) ⌝ }
+    requires { ⌜ (t < length (now a)) × (i < 12) × (stamp ≤ mostStamp) ⌝ }
     ensures { λ r. ⌜ r ≡ putOf stamp (now (a .entry)) t i ⌝ }
     ensures { λ _. ⌜ now (a .exit) ≡ marksAfter stamp (now (a .entry)) t i ⌝ }
 {
@@ -57,7 +60,7 @@ pub fn set_mark(a: &mut [u32], stamp: u32, t: usize, i: u32) -> Put
     if bit(m, i) {
         return Put::Twice;
     }
-    a[t] = stamp * 4096 + (m + power(i));
+    a[t] = stamp * STAMP + (m + power(i));
     if m == 0 {
         return Put::Fresh;
     }

@@ -13,7 +13,7 @@ use lib.Dec.{eqb}
 use lib.ListN.{length, getD, set}
 use lib.Seq.{set-getD}
 use Rattle.marks.specs.Marks.{bitsAt, marked, marksAfter}
-use Rattle.marks.specs.Words.{bitsIn, bitOf, Fits, bits-new, bits-old, bit-some}
+use Rattle.marks.specs.Words.{bitsIn, bitOf, Fits, bits-new, bits-old, bit-some, stampUnit}
 use Rattle.theory.specs.congestion.Sums.{lt-or-ge}
 
 -- m with bit i
@@ -49,33 +49,33 @@ bit-low (suc i) (suc k) n m h =
     ap (λ (a : ℕ). bitOf a i) r ∙ bit-low i k n (m / 2) (omega arith)
 
 module _ (n : ℕ) (a : List ℕ) (t : ℕ) (fits : Fits n a) where
-  kept-is : max (getD a t 0) (n * 4096) ≡ n * 4096 + bitsAt n a t
-  kept-is = ⊎-elim older current (lt-or-ge (getD a t 0) (n * 4096))
+  kept-is : max (getD a t 0) (n * stampUnit) ≡ n * stampUnit + bitsAt n a t
+  kept-is = ⊎-elim older current (lt-or-ge (getD a t 0) (n * stampUnit))
     where
-      older : getD a t 0 < n * 4096 → max (getD a t 0) (n * 4096) ≡ n * 4096 + bitsAt n a t
+      older : getD a t 0 < n * stampUnit → max (getD a t 0) (n * stampUnit) ≡ n * stampUnit + bitsAt n a t
       older h = omega (arith, bits-old n (getD a t 0) h)
 
-      current : n * 4096 ≤ getD a t 0 → max (getD a t 0) (n * 4096) ≡ n * 4096 + bitsAt n a t
+      current : n * stampUnit ≤ getD a t 0 → max (getD a t 0) (n * stampUnit) ≡ n * stampUnit + bitsAt n a t
       current h =
-          let e : getD a t 0 ≡ n * 4096 + (getD a t 0 - n * 4096) = omega arith in
-          let b : bitsAt n a t ≡ getD a t 0 - n * 4096 = ap (bitsIn n) e ∙ bits-new n (getD a t 0 - n * 4096) (omega (arith, fits t)) in
+          let e : getD a t 0 ≡ n * stampUnit + (getD a t 0 - n * stampUnit) = omega arith in
+          let b : bitsAt n a t ≡ getD a t 0 - n * stampUnit = ap (bitsIn n) e ∙ bits-new n (getD a t 0 - n * stampUnit) (omega (arith, fits t)) in
           omega (arith, b)
 
   -- where a bit of the net at hand is marked, the word is the larger
-  kept-same : (i : ℕ) → marked n a t i ≡ true → max (getD a t 0) (n * 4096) ≡ getD a t 0
-  kept-same i e = ⊎-elim (λ h. absurd (bit-some (bitsAt n a t) i e (bits-old n (getD a t 0) h))) (λ h. omega arith) (lt-or-ge (getD a t 0) (n * 4096))
+  kept-same : (i : ℕ) → marked n a t i ≡ true → max (getD a t 0) (n * stampUnit) ≡ getD a t 0
+  kept-same i e = ⊎-elim (λ h. absurd (bit-some (bitsAt n a t) i e (bits-old n (getD a t 0) h))) (λ h. omega arith) (lt-or-ge (getD a t 0) (n * stampUnit))
 
-  pub bit-added : (i : ℕ) → i < 12 → (kept b : ℕ) → kept ≡ max (getD a t 0) (n * 4096) → b ≡ 2 ^ i → set a t (bitOr kept b) ≡ marksAfter n a t i
+  pub bit-added : (i : ℕ) → i < 12 → (kept b : ℕ) → kept ≡ max (getD a t 0) (n * stampUnit) → b ≡ 2 ^ i → set a t (bitOr kept b) ≡ marksAfter n a t i
   unfolding marksAfter
-  bit-added i h kept b e f = ap₂ (λ (k c : ℕ). set a t (bitOr k c)) e f ∙ ap (set a t) (or-bit i (max (getD a t 0) (n * 4096)) ∙ ap (λ (q : Bool). cond q top (top + 2 ^ i)) bit) ∙ go (marked n a t i) refl
+  bit-added i h kept b e f = ap₂ (λ (k c : ℕ). set a t (bitOr k c)) e f ∙ ap (set a t) (or-bit i (max (getD a t 0) (n * stampUnit)) ∙ ap (λ (q : Bool). cond q top (top + 2 ^ i)) bit) ∙ go (marked n a t i) refl
     where
       top : ℕ
-      top = max (getD a t 0) (n * 4096)
+      top = max (getD a t 0) (n * stampUnit)
 
       bit : bitOf top i ≡ marked n a t i
       bit = ap (λ (k : ℕ). bitOf k i) kept-is ∙ bit-low i 12 n (bitsAt n a t) h
 
-      go : (q : Bool) → marked n a t i ≡ q → set a t (cond q top (top + 2 ^ i)) ≡ cond q a (set a t (n * 4096 + (bitsAt n a t + 2 ^ i)))
+      go : (q : Bool) → marked n a t i ≡ q → set a t (cond q top (top + 2 ^ i)) ≡ cond q a (set a t (n * stampUnit + (bitsAt n a t + 2 ^ i)))
       go true m = ap (set a t) (kept-same i m) ∙ set-getD a t 0
       go false m = ap (set a t) (omega (arith, kept-is))
 

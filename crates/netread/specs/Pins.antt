@@ -6,6 +6,7 @@ use mathlib.Core.Option.{some}
 use mathlib.Core.Path.{_≡_}
 use Prim.Native.Nat.{ℕ, _-_}
 use lib.ListN.{length, drop}
+use Rattle.layout.specs.Shapes.{mostTiles}
 use Rattle.layout.specs.declared.Shape.{Shape}
 use Rattle.marks.specs.Marks.{marksAfter}
 use Rattle.model.specs.Job.{Pin, Net}
@@ -27,7 +28,7 @@ afterPins n a (p ∷ ps) = afterPins n (marksAfter n a (p .tile) (p .layer - 1))
 
 -- above every tile
 abbrev pub noTile : ℕ
-noTile = 4096
+noTile = mostTiles
 
 -- the pins of the net are marked, and r is the lowest of their tiles
 pub record PinsMarked (n : ℕ) (net : Net) (a a′ : List ℕ) (r : ℕ) : Type 0 where

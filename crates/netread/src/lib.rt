@@ -8,7 +8,7 @@ ghost use Rattle.layout.specs.Areas.{tilesAt, areasEnd};
 ghost use Rattle.layout.specs.Parts.{Outside};
 ghost use Rattle.layout.specs.Shapes.{Shaped};
 ghost use Rattle.marks.specs.Marks.{marksAfter, Older};
-ghost use Rattle.marks.specs.Words.{Fits};
+ghost use Rattle.marks.specs.Words.{Fits, mostStamp};
 ghost use Rattle.model.specs.Job.{Net, Job};
 ghost use Rattle.model.specs.Read.{edgeInside};
 ghost use Rattle.net.specs.AtHand.{tilesOf};
@@ -34,7 +34,7 @@ fn lower(a: usize, b: usize) -> usize
 // Marks a pin. The lower of `low` and its tile.
 fn mark_pin(a: &mut [u32], g: Shape, stamp: u32, low: usize, x: usize, y: usize, l: usize) -> usize
     requires { ⌜ Shaped g ⌝ }
-    requires { ⌜ (g .t ≤ length (now a)) × (stamp ≤ 8192) × (x < g .w) × (y < g .h) × (1 ≤ l) × (l ≤ 8) ⌝ }
+    requires { ⌜ (g .t ≤ length (now a)) × (stamp ≤ mostStamp) × (x < g .w) × (y < g .h) × (1 ≤ l) × (l ≤ 8) ⌝ }
     ensures { λ r. ⌜ r ≡ min low (y * g .w + x) ⌝ }
     ensures { λ _. ⌜ now (a .exit) ≡ marksAfter stamp (now (a .entry)) (y * g .w + x) (l - 1) ⌝ }
 {
@@ -46,12 +46,12 @@ fn mark_pin(a: &mut [u32], g: Shape, stamp: u32, low: usize, x: usize, y: usize,
 // Marks the pins whose entries stand at `at`. Their lowest tile.
 pub fn mark_pins(s: &[u8], at: usize, a: &mut [u32], g: Shape, stamp: u32) -> usize
     requires { ⌜ Shaped g ⌝ }
-    requires { ⌜ (g .t ≤ length (now a)) × (stamp ≤ 8192) ⌝ }
+    requires { ⌜ (g .t ≤ length (now a)) × (stamp ≤ mostStamp) ⌝ }
     requires { ⌜ PinsThere (now s) g at ⌝ }
     ensures { λ r. ⌜ ((n : Net) → PinsAt (now (s .entry)) (g .w) (g .h) (g .k) at n → PinsMarked stamp n (now (a .entry)) (now (a .exit)) r) ⌝ }
 {
     let mut i = at;
-    let mut low = 4096;
+    let mut low = layout::TILES;
     loop {
         let p = known::pin_at(s, i);
         low = mark_pin(a, g, stamp, low, p.x, p.y, p.third);
@@ -70,17 +70,17 @@ fn larger(a: u32, b: u32) -> u32
 
 // Marks bit i of tile t, b being 2 ^ i. No stamp is above this one, so the larger of the tile's word and stamp × 4,096 has just the bits of the net at hand.
 fn add_mark(a: &mut [u32], stamp: u32, t: usize, b: u32)
-    requires { ⌜ (t < length (now a)) × (stamp ≤ 8192) ⌝ }
+    requires { ⌜ (t < length (now a)) × (stamp ≤ mostStamp) ⌝ }
     requires { ⌜ Fits stamp (now a) ⌝ }
     ensures { λ _. ⌜ ((i : ℕ) → i < 12 → b ≡ 2 ^ i → now (a .exit) ≡ marksAfter stamp (now (a .entry)) t i) ⌝ }
 {
-    let kept = larger(a[t], stamp * 4096);
+    let kept = larger(a[t], stamp * marks::STAMP);
     a[t] = kept | b;
 }
 
 // Marks an edge in its two tiles: way d, 0 for east and 1 for north, where it starts, and where it ends the way back, d + 2.
 fn mark_both(a: &mut [u32], stamp: u32, here: usize, there: usize, d: u32)
-    requires { ⌜ (here < length (now a)) × (there < length (now a)) × (d ≤ 1) × (stamp ≤ 8192) ⌝ }
+    requires { ⌜ (here < length (now a)) × (there < length (now a)) × (d ≤ 1) × (stamp ≤ mostStamp) ⌝ }
     requires { ⌜ Fits stamp (now a) ⌝ }
     ensures { λ _. ⌜ now (a .exit) ≡ bothAfter stamp (now (a .entry)) here there d ⌝ }
 {
@@ -92,7 +92,7 @@ fn mark_both(a: &mut [u32], stamp: u32, here: usize, there: usize, d: u32)
 // Marks an edge in its two tiles, which are a part of the working numbers.
 fn mark_ways(w: &mut [u32], g: Shape, stamp: u32, here: usize, there: usize, d: u32)
     requires { ⌜ Shaped g ⌝ }
-    requires { ⌜ (areasEnd g ≤ length (now w)) × (here < g .t) × (there < g .t) × (d ≤ 1) × (stamp ≤ 8192) ⌝ }
+    requires { ⌜ (areasEnd g ≤ length (now w)) × (here < g .t) × (there < g .t) × (d ≤ 1) × (stamp ≤ mostStamp) ⌝ }
     requires { ⌜ Fits stamp (tilesOf g (now w)) ⌝ }
     ensures { λ _. ⌜ tilesOf g (now (w .exit)) ≡ bothAfter stamp (tilesOf g (now (w .entry))) here there d ⌝ }
     ensures { λ _. ⌜ Outside (tilesAt g) (g .t) (now (w .entry)) (now (w .exit)) ⌝ }
@@ -105,7 +105,7 @@ fn mark_ways(w: &mut [u32], g: Shape, stamp: u32, here: usize, there: usize, d: 
 // Marks an edge, and lists it behind those read before.
 fn mark_edge(w: &mut [u32], g: Shape, stamp: u32, v: Again, x: usize, y: usize, d: usize) -> Again
     requires { ⌜ Shaped g ⌝ }
-    requires { ⌜ (areasEnd g ≤ length (now w)) × (stamp ≤ 8192) × (v .edges < g .t) × (d ≤ 1) × (edgeInside (g .w) (g .h) (triple x y d) ≡ true) ⌝ }
+    requires { ⌜ (areasEnd g ≤ length (now w)) × (stamp ≤ mostStamp) × (v .edges < g .t) × (d ≤ 1) × (edgeInside (g .w) (g .h) (triple x y d) ≡ true) ⌝ }
     requires { ⌜ Fits stamp (tilesOf g (now w)) ⌝ }
     ensures { λ r. ⌜ EdgeMarked g stamp (triple x y d) v (now (w .entry)) (now (w .exit)) r ⌝ }
 {
@@ -123,7 +123,7 @@ fn mark_edge(w: &mut [u32], g: Shape, stamp: u32, v: Again, x: usize, y: usize, 
 // Marks and lists the edges whose entries stand at `at`, one or more.
 fn mark_entries(s: &[u8], at: usize, w: &mut [u32], g: Shape, stamp: u32, low: usize) -> Again
     requires { ⌜ Shaped g ⌝ }
-    requires { ⌜ (areasEnd g ≤ length (now w)) × (stamp ≤ 8192) × Fits stamp (tilesOf g (now w)) ⌝ }
+    requires { ⌜ (areasEnd g ≤ length (now w)) × (stamp ≤ mostStamp) × Fits stamp (tilesOf g (now w)) ⌝ }
     requires { ⌜ EdgesThere (now s) g at × (getD (now s) at 0 ≡ 10 → ⊥) ⌝ }
     ensures { λ r. ⌜ ((n : Net) → EdgesAt (now (s .entry)) (g .w) (g .h) at n → EdgesMarked g stamp low (n .edges) (now (w .entry)) (now (w .exit)) r) ⌝ }
 {
@@ -142,7 +142,7 @@ fn mark_entries(s: &[u8], at: usize, w: &mut [u32], g: Shape, stamp: u32, low: u
 // Marks and lists the edges of the line at `at`, which may be empty.
 pub fn mark_edges(s: &[u8], at: usize, w: &mut [u32], g: Shape, stamp: u32, low: usize) -> Again
     requires { ⌜ Shaped g ⌝ }
-    requires { ⌜ (areasEnd g ≤ length (now w)) × (stamp ≤ 8192) × Fits stamp (tilesOf g (now w)) ⌝ }
+    requires { ⌜ (areasEnd g ≤ length (now w)) × (stamp ≤ mostStamp) × Fits stamp (tilesOf g (now w)) ⌝ }
     requires { ⌜ EdgesThere (now s) g at ⌝ }
     ensures { λ r. ⌜ ((n : Net) → EdgesAt (now (s .entry)) (g .w) (g .h) at n → EdgesMarked g stamp low (n .edges) (now (w .entry)) (now (w .exit)) r) ⌝ }
 {
@@ -155,7 +155,7 @@ pub fn mark_edges(s: &[u8], at: usize, w: &mut [u32], g: Shape, stamp: u32, low:
 // Reads the lines of a net again, whose entries stand at `pins` and `edges`: the net is then at hand.
 pub fn read_net(s: &[u8], pins: usize, edges: usize, w: &mut [u32], g: Shape, stamp: u32) -> Again
     requires { ⌜ Shaped g ⌝ }
-    requires { ⌜ (areasEnd g ≤ length (now w)) × (stamp ≤ 8192) × Older stamp (tilesOf g (now w)) ⌝ }
+    requires { ⌜ (areasEnd g ≤ length (now w)) × (stamp ≤ mostStamp) × Older stamp (tilesOf g (now w)) ⌝ }
     requires { ⌜ NetThere (now s) g pins edges ⌝ }
     ensures { λ r. ⌜ ((j : Job) (n : Net) → LinesOf (now (s .entry)) g pins edges j n → NetRead g stamp j n (now (w .entry)) (now (w .exit)) r) ⌝ }
 {

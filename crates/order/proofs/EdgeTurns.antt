@@ -9,7 +9,7 @@ use lib.ListN.{length, getD}
 use Rattle.known.specs.Known.{entryOf, ShortEntry, is-last, is-more}
 use Rattle.known.specs.Left.{edge-short, known-next}
 use Rattle.known.specs.declared.Known.{Known}
-use Rattle.layout.specs.Shapes.{Shaped}
+use Rattle.layout.specs.Shapes.{Shaped, mostTiles}
 use Rattle.layout.specs.declared.Shape.{Shape}
 use Rattle.model.specs.Job.{Net, Job}
 use Rattle.model.specs.Read.{Triple, edgeInside}
@@ -47,7 +47,7 @@ module _ (s : List ℕ) (g : Shape) (p : ℕ) (w : List ℕ) (shaped : Shaped g)
 
       pub next-asked : (v .demand ≤ 2 ^ 60) × (v .capacity ≤ 2 ^ 60) × (k .third ≤ 1) × (edgeInside (g .w) (g .h) (triple (k .x) (k .y) (k .third)) ≡ true)
       next-asked =
-          let few : length (now .so-far) < 4096 = omega (arith, next-room s g p (now .so-far) entry there next, shaped .t-most) in
+          let few : length (now .so-far) < mostTiles = omega (arith, next-room s g p (now .so-far) entry there next, shaped .t-most) in
           (omega (arith, now .sums .demand-most), omega (arith, now .sums .capacity-most), next .way, next .inside)
 
       module _ (r : Density) (a : Added g w (edgeOf g (triple (k .x) (k .y) (k .third))) v r) where

@@ -6,7 +6,7 @@ use Prim.Native.Nat.{ℕ, suc, _+_, _≤_, _<_}
 use native.Mathlib.Nat.{mul-le-mul}
 use native.Mathlib.Omega.{arith}
 use lib.ListN.{length, getD}
-use Rattle.layout.specs.Shapes.{Shaped}
+use Rattle.layout.specs.Shapes.{Shaped, mostTiles}
 use Rattle.layout.specs.Table.{edgesColumn, entriesColumn, countColumn}
 use Rattle.layout.specs.declared.Shape.{Shape}
 use Rattle.model.specs.Job.{Net, Job, netCount, netOf}
@@ -58,7 +58,7 @@ module _ (s : List ℕ) (g : Shape) (a : Weights) (w table : List ℕ) (lent : L
 
   pub demand-small : (x : Density) → Weighed (a .gamma) j (netOf j (suc i)) x → x .demand ≤ 4_294_967_296
   demand-small x d =
-      let few : length (net .edges) ≤ 4096 = omega (arith, edges-few j (ready .accepted .width .0) (ready .accepted .height .0) net ok, tiles-few lent j (ready .accepted)) in
+      let few : length (net .edges) ≤ mostTiles = omega (arith, edges-few j (ready .accepted .width .0) (ready .accepted .height .0) net ok, tiles-few lent j (ready .accepted)) in
       omega (arith, d .most, demands-small lent j (ready .accepted) (net .edges), mul-le-mul few (ready .accepted .net-count))
 
   pub score-is : (e p : ℕ) (x : Density) → e ≡ getD table (countColumn i) 0 → p ≡ getD table (entriesColumn i) 0 → getD table (entriesColumn i) 0 ≡ length (netOf j (suc i) .pins) → Weighed (a .gamma) j (netOf j (suc i)) x

@@ -10,6 +10,7 @@ use lib.Seq.{getD-set-same, getD-set-other}
 use Rattle.layout.specs.Table.{entriesColumn, viasColumn, tableSize, scoreIn, scorePut}
 use Rattle.layout.specs.declared.Shape.{Shape}
 use Rattle.model.specs.Job.{Job, netCount, netOf}
+use Rattle.model.specs.Limits.{mostNets}
 use Rattle.model.specs.Read.{Lent}
 use Rattle.model.specs.Score.{score}
 use Rattle.net.specs.Table.{Table, PinCounts, table-set, beside-entries, beside-vias}
@@ -36,7 +37,7 @@ module _ (table : List ℕ) (i v : ℕ) where
       (getD-set-other low (viasColumn i) (entriesColumn k) (v / 4_294_967_296) 0 (λ e. omega arith) ∙ getD-set-other table (entriesColumn i) (entriesColumn k) (v % 4_294_967_296) 0 (λ e. omega arith))
       (getD-set-other low (viasColumn i) (viasColumn k) (v / 4_294_967_296) 0 (λ e. omega arith) ∙ getD-set-other table (entriesColumn i) (viasColumn k) (v % 4_294_967_296) 0 (λ e. omega arith))
 
-  put-here : i < 4096 → tableSize ≤ length table → scoreIn (scorePut table i v) i ≡ v
+  put-here : i < mostNets → tableSize ≤ length table → scoreIn (scorePut table i v) i ≡ v
   put-here h long =
       omega (
         arith,
@@ -87,7 +88,7 @@ module _ (s : List ℕ) (g : Shape) (a : Weights) (w old : List ℕ) (n : ℕ) w
         pins = f .left i (omega arith) ∙ o .pins i (omega (arith, o .count));
       }
 
-      pub few : (i < 4096) × (tableSize ≤ length table)
+      pub few : (i < mostNets) × (tableSize ≤ length table)
       few = (omega (arith, o .count, o .ready .accepted .net-count), f .rows (o .job) (o .ready .rows) .long)
 
       pub scoring-next : (v : ℕ)

@@ -14,6 +14,7 @@ use Rattle.layout.specs.declared.Shape.{Shape}
 use Rattle.marks.specs.Marks.{Older}
 use Rattle.model.specs.Demand3.{turns, choiceVias, planIn}
 use Rattle.model.specs.Job.{Net, Job, netCount, netEdges, entryCount}
+use Rattle.model.specs.Limits.{mostNets}
 use Rattle.model.specs.Lists.{sum, occurs, In}
 use Rattle.model.specs.Plan.{planFrom, plan, totalVias}
 use Rattle.model.specs.Read.{Lent}
@@ -151,7 +152,7 @@ module _ (s : List ℕ) (g : Shape) (n : ℕ) (m : ℕ → ℕ) (w₀ table₀ :
       net-inside : getD (order j) k noEntry .net - 1 < netCount j
       net-inside = mid .midway .inside (t .net - 1) in-turn
 
-      pub net-number : getD table (turnColumn k) 0 - 1 < 4096
+      pub net-number : getD table (turnColumn k) 0 - 1 < mostNets
       net-number = omega (arith, net-told, net-inside, acc .net-count)
 
       -- it is counted from 1

@@ -9,7 +9,9 @@ ghost use Rattle.flat.specs.Limited.{limitAt};
 ghost use Rattle.layout.specs.Areas.{areasEnd};
 ghost use Rattle.layout.specs.Shapes.{Shaped};
 ghost use Rattle.layout.specs.Table.{viasColumn, tableSize};
+ghost use Rattle.marks.specs.Words.{mostStamp};
 ghost use Rattle.model.specs.Job.{Job};
+ghost use Rattle.model.specs.Limits.{mostNets};
 ghost use Rattle.model.specs.Read.{Lent};
 ghost use Rattle.turn.specs.Turn.{Turn};
 ghost use Rattle.placing.specs.Turns.{rowOf, RowTurn, RowTurnSome, RowDone, Start, StartSome, AllPlaced};
@@ -24,7 +26,7 @@ pub struct NetRow {
 
 // The row of net i, counted from 0.
 fn row_of(table: &[u32], i: usize) -> NetRow
-    requires { ⌜ (i < 4096) × (tableSize ≤ length (now table)) ⌝ }
+    requires { ⌜ (i < mostNets) × (tableSize ≤ length (now table)) ⌝ }
     ensures { λ r. ⌜ r ≡ rowOf (now (table .entry)) i ⌝ }
     ensures { λ r. ⌜ (r .first < 4294967296) × (r .count < 4294967296) ⌝ }
 {
@@ -50,7 +52,7 @@ fn turn_of(
 ) -> u32
     requires { ⌜ Charted spanOf (now chart) ⌝ }
     requires { ⌜ Shaped g ⌝ }
-    requires { ⌜ (areasEnd g ≤ length (now w)) × (stamp ≤ 8192) × (i < 4096) × (tableSize ≤ length (now table)) ⌝ }
+    requires { ⌜ (areasEnd g ≤ length (now w)) × (stamp ≤ mostStamp) × (i < mostNets) × (tableSize ≤ length (now table)) ⌝ }
     requires { ⌜ RowTurnSome (now s) g stamp (limitAt limits) (now w) (now table) (length (now answer)) i ⌝ }
     ensures { λ r. ⌜ ((u : Turn) → RowTurn (now (s .entry)) g stamp (limitAt limits) (now (w .entry)) (now (table .entry)) (length (now (answer .entry))) i u → RowDone g stamp (now (w .exit)) (now (answer .entry)) (now (answer .exit)) i r u) ⌝ }
     ensures { λ r. ⌜ now (table .exit) ≡ set (now (table .entry)) (viasColumn i) r ⌝ }
@@ -87,7 +89,7 @@ pub fn place_all(
 ) -> u64
     requires { ⌜ Charted spanOf (now chart) ⌝ }
     requires { ⌜ Shaped g ⌝ }
-    requires { ⌜ (areasEnd g ≤ length (now w)) × (n ≤ 4096) × (tableSize ≤ length (now table)) ⌝ }
+    requires { ⌜ (areasEnd g ≤ length (now w)) × (n ≤ mostNets) × (tableSize ≤ length (now table)) ⌝ }
     requires { ⌜ StartSome (now s) g n (limitAt limits) (now w) (now table) (length (now answer)) ⌝ }
     ensures { λ r. ⌜ ((lent : Lent) (j : Job) → Start (now (s .entry)) g n (limitAt limits) (now (w .entry)) (now (table .entry)) (length (now (answer .entry))) lent j → AllPlaced j (now (answer .entry)) (now (answer .exit)) (now (table .exit)) r) ⌝ }
     ensures { λ _. ⌜ (length (now (w .exit)) ≡ length (now (w .entry))) × (length (now (table .exit)) ≡ length (now (table .entry))) × (length (now (answer .exit)) ≡ length (now (answer .entry))) ⌝ }

@@ -112,7 +112,7 @@ module _ (s : List ℕ) (h : Head) (w table : List ℕ) (size : ℕ) (lent : Len
   pub tiles-room : tilesAt (h .shape) ≤ length w
   tiles-room = omega (arith, at .given .room)
 
-  pub few-nets : h .nets ≤ 4096
+  pub few-nets : h .nets ≤ mostNets
   few-nets = omega (arith, at .given .count, at .given .accepted .net-count)
 
   pub few-demands : (e : ℕ) → e < h .shape .e → getD w (demandAt (h .shape) + e) 0 ≤ mostNets

@@ -10,6 +10,7 @@ use Rattle.layout.specs.Table.{turnColumn, firstColumn, countColumn, viasColumn
 use Rattle.model.specs.Calls.{overwrite}
 use Rattle.model.specs.Demand3.{choiceVias, planIn}
 use Rattle.model.specs.Job.{Net, Job, netCount, netOf, netEdges, entryCount}
+use Rattle.model.specs.Limits.{mostNets}
 use Rattle.model.specs.Lists.{upFrom}
 use Rattle.model.specs.Overflow.{totalOverflow, maxOverflow}
 use Rattle.model.specs.Plan.{plan, netVias, totalVias}
@@ -65,7 +66,7 @@ module _ (j : Job) (y : List (List ℕ)) (table answer : List ℕ) (held : Held 
   edges-at i = List·getD-map {B = List ℕ} (λ n. n .edges) (j .nets) i (record { pins = []; edges = [] }) ∙ sym (ap (λ (n : Net). n .edges) (at-place i))
 
   -- every net has its row, and its stretch is inside the answer list
-  pub held-rows : netCount j ≤ 4096 → Rows (netCount j) table answer
+  pub held-rows : netCount j ≤ mostNets → Rows (netCount j) table answer
   held-rows few i h = record {
     few = omega arith;
     row = omega (arith, held .table-long);

@@ -7,7 +7,8 @@ use native.Mathlib.Numerals.{add-one}
 use native.Mathlib.Omega.{arith}
 use lib.ListN.{length, getD, length-map}
 use Rattle.layout.specs.Parts.{part}
-use Rattle.layout.specs.Table.{turnColumn, firstColumn, countColumn, viasColumn}
+use Rattle.layout.specs.Table.{turnColumn, firstColumn, countColumn, viasColumn, netColumns}
+use Rattle.model.specs.Limits.{mostNets}
 use Rattle.model.specs.Lists.{upFrom}
 use Rattle.model.specs.Print.{printLine, printNet, printNets}
 use Rattle.theory.specs.congestion.Base.{length-upFrom}
@@ -40,7 +41,7 @@ nets-done table answer i n h = let e : n - i ≡ 0 = omega arith in ap (netsText
 
 -- the table has a row for net i, and its stretch is inside the answer list
 pub record RowInside (table answer : List ℕ) (i : ℕ) : Type 0 where
-  pub few : i < 4096
+  pub few : i < mostNets
   pub row : viasColumn i < length table
   pub stretch : getD table (firstColumn i) 0 + getD table (countColumn i) 0 ≤ length answer
 
@@ -66,7 +67,7 @@ turns-at table n i h =
     let e : 0 + i ≡ i = omega arith in up-at (λ k. getD table (turnColumn k) 0) 0 n i h ∙ ap (λ (k : ℕ). getD table (turnColumn k) 0) e
 
 -- a table with a row for each of n nets has n turns
-pub rows-turns : (n : ℕ) (table answer : List ℕ) → Rows n table answer → (n ≤ 4096) × (6 * n ≤ length table)
+pub rows-turns : (n : ℕ) (table answer : List ℕ) → Rows n table answer → (n ≤ mostNets) × (netColumns * n ≤ length table)
 rows-turns zero table answer rows = (omega arith, omega arith)
 rows-turns (suc n) table answer rows = let r = rows n (omega arith) in (omega arith, omega arith)
 

@@ -4,8 +4,9 @@ ghost use mathlib.Core.Path.{_≡_};
 ghost use Prim.Native.Nat.{_+_, _*_, _≤_, _<_};
 ghost use lib.ListN.{length, getD};
 ghost use lib.Seq.{sets};
-ghost use Rattle.layout.specs.Table.{turnColumn, firstColumn, countColumn, viasColumn};
+ghost use Rattle.layout.specs.Table.{turnColumn, firstColumn, countColumn, viasColumn, netColumns};
 ghost use Rattle.model.specs.Calls.{refusal};
+ghost use Rattle.model.specs.Limits.{mostNets};
 ghost use Rattle.model.specs.Print.{printLine, printNet};
 ghost use Rattle.model.specs.Program.{written};
 ghost use Rattle.model.specs.Text.{decimal, decimals};
@@ -16,7 +17,7 @@ ghost use Rattle.put.specs.Wrote.{Wrote};
 
 // The net whose turn is k, counted from 0, as the net table has it.
 fn turn_of(table: &[u32], k: usize) -> u32
-    requires { ⌜ (k < 4096) × (turnColumn k < length (now table)) ⌝ }
+    requires { ⌜ (k < mostNets) × (turnColumn k < length (now table)) ⌝ }
     ensures { λ r. ⌜ r ≡ getD (now (table .entry)) (turnColumn k) 0 ⌝ }
 {
     table[layout::turn_column(k)]
@@ -24,7 +25,7 @@ fn turn_of(table: &[u32], k: usize) -> u32
 
 // The nets of n turns.
 fn put_turns(b: &mut [u8], from: usize, table: &[u32], n: usize) -> usize
-    requires { ⌜ (n ≤ 4096) × (6 * n ≤ length (now table)) ⌝ }
+    requires { ⌜ (n ≤ mostNets) × (netColumns * n ≤ length (now table)) ⌝ }
     requires { ⌜ from + length (decimals (turnsOf (now table) n)) ≤ length (now b) ⌝ }
     ensures { λ r. ⌜ Wrote from (decimals (turnsOf (now (table .entry)) n)) (now (b .entry)) (now (b .exit)) r ⌝ }
 {
@@ -40,7 +41,7 @@ fn put_turns(b: &mut [u8], from: usize, table: &[u32], n: usize) -> usize
 
 // The line `order`.
 fn put_order(b: &mut [u8], at: usize, table: &[u32], n: usize) -> usize
-    requires { ⌜ (n ≤ 4096) × (6 * n ≤ length (now table)) ⌝ }
+    requires { ⌜ (n ≤ mostNets) × (netColumns * n ≤ length (now table)) ⌝ }
     requires { ⌜ at + length (printLine "order" (turnsOf (now table) n)) ≤ length (now b) ⌝ }
     ensures { λ r. ⌜ Wrote at (printLine "order" (turnsOf (now (table .entry)) n)) (now (b .entry)) (now (b .exit)) r ⌝ }
 {
@@ -75,21 +76,21 @@ fn put_net(b: &mut [u8], at: usize, i: usize, vias: u32, layers: &[u8]) -> usize
 
 // Of the net at place i of the table, counted from 0: where its layers begin in the answer list, how many they are, and its vias.
 fn first_of(table: &[u32], i: usize) -> u32
-    requires { ⌜ (i < 4096) × (firstColumn i < length (now table)) ⌝ }
+    requires { ⌜ (i < mostNets) × (firstColumn i < length (now table)) ⌝ }
     ensures { λ r. ⌜ r ≡ getD (now (table .entry)) (firstColumn i) 0 ⌝ }
 {
     table[layout::first_column(i)]
 }
 
 fn count_of(table: &[u32], i: usize) -> u32
-    requires { ⌜ (i < 4096) × (countColumn i < length (now table)) ⌝ }
+    requires { ⌜ (i < mostNets) × (countColumn i < length (now table)) ⌝ }
     ensures { λ r. ⌜ r ≡ getD (now (table .entry)) (countColumn i) 0 ⌝ }
 {
     table[layout::count_column(i)]
 }
 
 fn vias_of(table: &[u32], i: usize) -> u32
-    requires { ⌜ (i < 4096) × (viasColumn i < length (now table)) ⌝ }
+    requires { ⌜ (i < mostNets) × (viasColumn i < length (now table)) ⌝ }
     ensures { λ r. ⌜ r ≡ getD (now (table .entry)) (viasColumn i) 0 ⌝ }
 {
     table[layout::vias_column(i)]

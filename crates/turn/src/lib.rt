@@ -12,6 +12,7 @@ ghost use Rattle.flat.specs.Limited.{limitAt};
 ghost use Rattle.layout.specs.Areas.{chosenAt, engineAt, areasEnd};
 ghost use Rattle.layout.specs.Parts.{Outside};
 ghost use Rattle.layout.specs.Shapes.{Shaped};
+ghost use Rattle.marks.specs.Words.{mostStamp};
 ghost use Rattle.model.specs.Job.{Job, Net};
 ghost use Rattle.model.specs.Limits.{mostNets};
 ghost use Rattle.tracks.specs.OccupiedAll.{edgesOf, layersIn};
@@ -84,7 +85,7 @@ fn put_answer(w: &[u32], g: Shape, out: &mut [u8])
 // Reads the net again whose lines stand at `pins` and `edges`, and walks it. How many tiles it has.
 fn read_and_walk(s: &[u8], pins: usize, edges: usize, w: &mut [u32], g: Shape, stamp: u32) -> usize
     requires { ⌜ Shaped g ⌝ }
-    requires { ⌜ (areasEnd g ≤ length (now w)) × (stamp ≤ 8192) ⌝ }
+    requires { ⌜ (areasEnd g ≤ length (now w)) × (stamp ≤ mostStamp) ⌝ }
     requires { ⌜ BeforeSome (now s) pins edges g stamp (now w) ⌝ }
     ensures { λ r. ⌜ ((u : Turn) → Before (now (s .entry)) pins edges g stamp (now (w .entry)) u → NetWalked g stamp r (now (w .exit)) u) ⌝ }
     ensures { λ _. ⌜ length (now (w .exit)) ≡ length (now (w .entry)) ⌝ }
@@ -135,7 +136,7 @@ pub fn take_turn(
 ) -> u32
     requires { ⌜ Charted spanOf (now chart) ⌝ }
     requires { ⌜ Shaped g ⌝ }
-    requires { ⌜ (areasEnd g ≤ length (now w)) × (stamp ≤ 8192) ⌝ }
+    requires { ⌜ (areasEnd g ≤ length (now w)) × (stamp ≤ mostStamp) ⌝ }
     requires { ⌜ TurnSome (now s) pins edges g stamp (limitAt limits) (now w) (length (now out)) ⌝ }
     ensures { λ r. ⌜ ((u : Turn) → TurnAt (now (s .entry)) pins edges g stamp (limitAt limits) (now (w .entry)) (length (now (out .entry))) u → TurnDone g stamp (now (w .exit)) (now (out .exit)) r u) ⌝ }
     ensures { λ _. ⌜ length (now (w .exit)) ≡ length (now (w .entry)) ⌝ }

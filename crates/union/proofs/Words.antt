@@ -9,23 +9,25 @@ use native.Mathlib.Omega.{arith}
 use lib.Dec.{eqb}
 use lib.ListN.{length, getD, set, length-set}
 use lib.Seq.{getD-set-same, getD-set-other}
+use Rattle.marks.specs.Words.{stampUnit}
 use Rattle.theory.specs.congestion.Sums.{same-cases, eqb-true, eqb-false}
 use Rattle.theory.specs.walk.Joined.{relabel, relabel-same}
 use Rattle.theory.specs.walk.Union.{topOf, link, halve, top-ext, top-le, root-fixed, root-top, root-step, halve-root, link-root}
-use Rattle.union.specs.Links.{parentIn, Older, Links, Kept, Found, Merged, parent-new}
+use Rattle.marks.specs.Marks.{Older}
+use Rattle.union.specs.Links.{parentIn, Links, Kept, Found, Merged, parent-new}
 
 -- ---- one word
 
 module _ (n : ℕ) (a : List ℕ) (x q : ℕ) (inside : x < length a) (small : q < 4096) where
   abbrev new : List ℕ
-  new = set a x (n * 4096 + q)
+  new = set a x (n * stampUnit + q)
 
   put-here : parentIn n new x ≡ q
-  put-here = let e = getD-set-same a x (n * 4096 + q) 0 inside in omega (arith, e, parent-new n new x (omega (arith, e)))
+  put-here = let e = getD-set-same a x (n * stampUnit + q) 0 inside in omega (arith, e, parent-new n new x (omega (arith, e)))
 
   put-other : (i : ℕ) → i ≢ x → parentIn n new i ≡ parentIn n a i
   unfolding parentIn
-  put-other i d = rw (getD-set-other a x i (n * 4096 + q) 0 d)
+  put-other i d = rw (getD-set-other a x i (n * stampUnit + q) 0 d)
 
   put-parent : (i : ℕ) → parentIn n new i ≡ cond (eqb i x) q (parentIn n a i)
   put-parent i =
@@ -38,8 +40,8 @@ module _ (n : ℕ) (a : List ℕ) (x q : ℕ) (inside : x < length a) (small : q
   put-links h low = record {
     older = λ i.
         ⊎-elim
-        (λ s. omega (arith, ap (λ (k : ℕ). getD new k 0) (s .0), getD-set-same a x (n * 4096 + q) 0 inside))
-        (λ s. omega (arith, h .older i, getD-set-other a x i (n * 4096 + q) 0 (s .0)))
+        (λ s. omega (arith, ap (λ (k : ℕ). getD new k 0) (s .0), getD-set-same a x (n * stampUnit + q) 0 inside))
+        (λ s. omega (arith, h .older i, getD-set-other a x i (n * stampUnit + q) 0 (s .0)))
         (same-cases i x);
     falling = λ i.
         ⊎-elim
@@ -51,12 +53,12 @@ module _ (n : ℕ) (a : List ℕ) (x q : ℕ) (inside : x < length a) (small : q
 -- ---- the search
 
 -- tile t goes to its parent's parent
-pub halved : (n : ℕ) (a : List ℕ) (t : ℕ) → Links n a → length a ≤ 4096 → t < length a → Kept n a (set a t (n * 4096 + parentIn n a (parentIn n a t)))
+pub halved : (n : ℕ) (a : List ℕ) (t : ℕ) → Links n a → length a ≤ 4096 → t < length a → Kept n a (set a t (n * stampUnit + parentIn n a (parentIn n a t)))
 halved n a t h room inside = record {
   links = put-links n a t q inside small h low;
   same-length = simp length-set;
   roots = λ i.
-      top-ext (parentIn n (set a t (n * 4096 + q))) (halve (parentIn n a) t) (put-parent n a t q inside small) i ∙ halve-root (parentIn n a) (h .falling) t i;
+      top-ext (parentIn n (set a t (n * stampUnit + q))) (halve (parentIn n a) t) (put-parent n a t q inside small) i ∙ halve-root (parentIn n a) (h .falling) t i;
 }
   where
     q : ℕ
@@ -78,7 +80,7 @@ pub searched-start : (n : ℕ) (a : List ℕ) (x : ℕ) → Links n a → x < le
 searched-start n a x h inside = record { inside = inside; kept = record { links = h; same-length = refl; roots = λ i. refl }; root = refl }
 
 pub searched-again : (n : ℕ) (a : List ℕ) (x : ℕ) (b : List ℕ) (t p q : ℕ) (c : List ℕ) → Searched n a x b t → length a ≤ 4096
-    → p ≡ parentIn n b t → q ≡ parentIn n b p → c ≡ set b t (n * 4096 + q) → Searched n a x c q
+    → p ≡ parentIn n b t → q ≡ parentIn n b p → c ≡ set b t (n * stampUnit + q) → Searched n a x c q
 searched-again n a x b t p q c h room ep eq ec = rw ec record {
   inside = rw length-set (omega (arith, low, h .inside));
   kept = record { links = k .links; same-length = k .same-length ∙ h .kept .same-length; roots = λ i. k .roots i ∙ h .kept .roots i };
@@ -97,7 +99,7 @@ searched-again n a x b t p q c h room ep eq ec = rw ec record {
     low : q ≤ t
     low = omega (arith, eq′, falls t, falls (par t))
 
-    k : Kept n b (set b t (n * 4096 + q))
+    k : Kept n b (set b t (n * stampUnit + q))
     k = rw eq′ (halved n b t (h .kept .links) (omega (arith, h .kept .same-length)) (h .inside))
 
 pub searched-done : (n : ℕ) (a : List ℕ) (x : ℕ) (b : List ℕ) (t : ℕ) → Searched n a x b t → parentIn n b t ≡ t → Found n a x b t
@@ -132,13 +134,13 @@ module _ (n : ℕ) (a : List ℕ) (x y : ℕ) (b : List ℕ) (p : ℕ) (c : List
   }
 
   -- they had two: the larger, m, goes below the smaller, v
-  pub merged-two : length a ≤ 4096 → p ≢ q → (m v : ℕ) (d : List ℕ) → m ≡ max p q → v ≡ min p q → d ≡ set c m (n * 4096 + v) → Merged n a x y d true
+  pub merged-two : length a ≤ 4096 → p ≢ q → (m v : ℕ) (d : List ℕ) → m ≡ max p q → v ≡ min p q → d ≡ set c m (n * stampUnit + v) → Merged n a x y d true
   merged-two room ne m v d em ev ed = rw ed record {
     apart = sym (ap not (eqb-false _ _ (λ e. ne (one .is-root ∙ e ∙ sym is-two))));
     links = put-links n c m v inside small (two .kept .links) (omega arith);
     same-length = rw length-set length-same;
     roots = λ z.
-        top-ext (parentIn n (set c m (n * 4096 + v))) (link par p q) is-link z
+        top-ext (parentIn n (set c m (n * stampUnit + v))) (link par p q) is-link z
         ∙ link-root par (two .kept .links .falling) p q top-p top-q z
         ∙ ap (relabel p q) (roots-same z)
         ∙ ap₂ (λ (u w : ℕ). relabel u w (topOf (parentIn n a) z)) (one .is-root) is-two;
@@ -162,5 +164,5 @@ module _ (n : ℕ) (a : List ℕ) (x y : ℕ) (b : List ℕ) (p : ℕ) (c : List
       top-q : par q ≡ q
       top-q = fixed q y (two .is-root ∙ sym (two .kept .roots y))
 
-      is-link : (i : ℕ) → parentIn n (set c m (n * 4096 + v)) i ≡ link par p q i
+      is-link : (i : ℕ) → parentIn n (set c m (n * stampUnit + v)) i ≡ link par p q i
       is-link i = put-parent n c m v inside small i ∙ rw (em, ev)

@@ -9,16 +9,14 @@ use Prim.Native.Nat.{ℕ, _+_, _*_, _/_, _%_, _≤_, _<_}
 use native.Mathlib.Omega.{arith}
 use lib.Dec.{eqb}
 use lib.ListN.{length, getD}
+use Rattle.marks.specs.Marks.{Older}
+use Rattle.marks.specs.Words.{stampUnit}
 use Rattle.theory.specs.congestion.Sums.{eqb-true, eqb-false}
 use Rattle.theory.specs.walk.Joined.{relabel}
 use Rattle.theory.specs.walk.Union.{topOf, Falling, Holds, holds-own}
 
 unfoldable pub parentIn : ℕ → List ℕ → ℕ → ℕ
-parentIn n a i = cond (eqb (getD a i 0 / 4096) n) (getD a i 0 % 4096) i
-
--- every word's stamp is below n
-abbrev pub Older : ℕ → List ℕ → Type 0
-Older n a = (i : ℕ) → getD a i 0 < n * 4096
+parentIn n a i = cond (eqb (getD a i 0 / stampUnit) n) (getD a i 0 % stampUnit) i
 
 -- no word's stamp is above n, and no parent above its tile
 pub record Links (n : ℕ) (a : List ℕ) : Type 0 where
@@ -46,13 +44,13 @@ pub record Merged (n : ℕ) (a : List ℕ) (x y : ℕ) (a′ : List ℕ) (r : Bo
 
 -- ---- one word
 
-pub parent-new : (n : ℕ) (a : List ℕ) (i : ℕ) → getD a i 0 / 4096 ≡ n → parentIn n a i ≡ getD a i 0 % 4096
+pub parent-new : (n : ℕ) (a : List ℕ) (i : ℕ) → getD a i 0 / stampUnit ≡ n → parentIn n a i ≡ getD a i 0 % stampUnit
 unfolding parentIn
-parent-new n a i e = rw (eqb-true (getD a i 0 / 4096) n e)
+parent-new n a i e = rw (eqb-true (getD a i 0 / stampUnit) n e)
 
-pub parent-old : (n : ℕ) (a : List ℕ) (i : ℕ) → getD a i 0 / 4096 ≢ n → parentIn n a i ≡ i
+pub parent-old : (n : ℕ) (a : List ℕ) (i : ℕ) → getD a i 0 / stampUnit ≢ n → parentIn n a i ≡ i
 unfolding parentIn
-parent-old n a i e = rw (eqb-false (getD a i 0 / 4096) n e)
+parent-old n a i e = rw (eqb-false (getD a i 0 / stampUnit) n e)
 
 -- ---- from net to net
 

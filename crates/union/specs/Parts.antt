@@ -9,7 +9,8 @@ use Rattle.model.specs.Lists.{In, bit}
 use Rattle.theory.specs.walk.NetVias.{netTiles}
 use Rattle.theory.specs.walk.Parts.{Touches}
 use Rattle.theory.specs.links.Counted.{Counted, counted-start, counted-merge, counted-edge}
-use Rattle.union.specs.Links.{parentIn, Older, Links, Merged, older-holds}
+use Rattle.marks.specs.Marks.{Older}
+use Rattle.union.specs.Links.{parentIn, Links, Merged, older-holds}
 
 module _ (lo hi : ℕ → ℕ) (size n : ℕ) (a : List ℕ) where
   -- before the first entry of a net

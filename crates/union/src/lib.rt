@@ -3,26 +3,31 @@
 ghost use mathlib.Core.Path.{_≡_};
 ghost use Prim.Native.Nat.{_+_, _*_, _<_, _≤_};
 ghost use lib.ListN.{length, set};
+ghost use Rattle.layout.specs.Shapes.{mostTiles};
+ghost use Rattle.marks.specs.Words.{mostStamp, stampUnit};
 ghost use Rattle.union.specs.Links.{parentIn, Links, Found, Merged};
+
+// A parent is a number below this one, and its stamp stands above it, as in a word of marks.
+const STAMP: usize = 4096;
 
 fn parent(a: &[u32], stamp: usize, x: usize) -> usize
     requires { ⌜ x < length (now a) ⌝ }
     ensures { λ r. ⌜ r ≡ parentIn stamp (now (a .entry)) x ⌝ }
 {
     let w = a[x] as usize;
-    if w / 4096 == stamp { w % 4096 } else { x }
+    if w / STAMP == stamp { w % STAMP } else { x }
 }
 
 fn put(a: &mut [u32], stamp: usize, x: usize, p: usize)
-    requires { ⌜ (stamp ≤ 8192) × (x < length (now a)) × (p < 4096) ⌝ }
-    ensures { λ r. ⌜ now (a .exit) ≡ set (now (a .entry)) x (stamp * 4096 + p) ⌝ }
+    requires { ⌜ (stamp ≤ mostStamp) × (x < length (now a)) × (p < stampUnit) ⌝ }
+    ensures { λ r. ⌜ now (a .exit) ≡ set (now (a .entry)) x (stamp * stampUnit + p) ⌝ }
 {
-    a[x] = (stamp * 4096 + p) as u32;
+    a[x] = (stamp * STAMP + p) as u32;
 }
 
 // The root of tile x. On the way each tile goes to its parent's parent, which changes no root.
 pub fn root(a: &mut [u32], stamp: usize, x: usize) -> usize
-    requires { ⌜ (stamp ≤ 8192) × (length (now a) ≤ 4096) × (x < length (now a)) × Links stamp (now a) ⌝ }
+    requires { ⌜ (stamp ≤ mostStamp) × (length (now a) ≤ mostTiles) × (x < length (now a)) × Links stamp (now a) ⌝ }
     ensures { λ r. ⌜ Found stamp (now (a .entry)) x (now (a .exit)) r ⌝ }
 {
     let mut t = x;
@@ -39,7 +44,7 @@ pub fn root(a: &mut [u32], stamp: usize, x: usize) -> usize
 
 // Joins tiles x and y: of two roots the larger goes below the smaller. Whether there were two.
 pub fn join(a: &mut [u32], stamp: usize, x: usize, y: usize) -> bool
-    requires { ⌜ (stamp ≤ 8192) × (length (now a) ≤ 4096) × (x < length (now a)) × (y < length (now a)) × Links stamp (now a) ⌝ }
+    requires { ⌜ (stamp ≤ mostStamp) × (length (now a) ≤ mostTiles) × (x < length (now a)) × (y < length (now a)) × Links stamp (now a) ⌝ }
     ensures { λ r. ⌜ Merged stamp (now (a .entry)) x y (now (a .exit)) r ⌝ }
 {
     let p = root(a, stamp, x);

@@ -15,7 +15,7 @@ use Rattle.layout.specs.Shapes.{Shaped, WayRoom}
 use Rattle.layout.specs.declared.Shape.{Shape}
 use Rattle.layout.specs.declared.Way.{Way}
 use Rattle.marks.specs.Marks.{bitsAt}
-use Rattle.marks.specs.Words.{bitsIn, bitOf}
+use Rattle.marks.specs.Words.{bitsIn, bitOf, stampUnit}
 use Rattle.model.specs.Grid.{gridEdges}
 use Rattle.model.specs.Job.{Job, Net, tileCount}
 use Rattle.model.specs.Lists.{In, has}
@@ -191,7 +191,7 @@ module _ (g : Shape) (shaped : Shaped g) (stamp : ℕ) (j : Job) (net : Net) (ro
     pub visit-room : n + length (branchesIn g stamp w i) ≤ g .m
     visit-room = places
 
-    pub visit-fits : getD w (tilesAt g + tileIn g w i) 0 < (stamp + 1) * 4096
+    pub visit-fits : getD w (tilesAt g + tileIn g w i) 0 < (stamp + 1) * stampUnit
     visit-fits =
         let e : getD w (tilesAt g + stopAt j net i .tile) 0 ≡ getD (tilesOf g w₀) (stopAt j net i .tile) 0 =
         go .outside .low (tilesAt g + x) (omega (arith, x-in)) ∙ sym (part-at (tilesAt g) (g .t) w₀ x x-in) in

@@ -8,7 +8,7 @@ ghost use Prim.Native.Nat.{ℕ, _+_, _*_, _<_, _≤_};
 ghost use lib.ListN.{length, getD};
 ghost use Rattle.layout.specs.Areas.{tilesAt, stopsAt, areasEnd};
 ghost use Rattle.layout.specs.Shapes.{Shaped, WayRoom};
-ghost use Rattle.marks.specs.Words.{bitsIn, bitOf};
+ghost use Rattle.marks.specs.Words.{bitsIn, bitOf, mostStamp, stampUnit};
 ghost use Rattle.model.specs.Job.{Job, Net};
 ghost use Rattle.walk.specs.Steps.{onward, fourWays, putWays, tileIn, marksIn, branchesIn, visited};
 ghost use Rattle.walk.specs.Walked.{Walks, WalkReady, Walked};
@@ -53,11 +53,11 @@ fn branches(w: &mut [u32], g: Shape, x: usize, m: u32, above: usize, n: usize) -
 
 // The bits of a word whose stamp is not above this one: none where it is below.
 fn latest_bits(word: u32, stamp: u32) -> u32
-    requires { ⌜ (stamp ≤ 8192) × (word < (stamp + 1) * 4096) ⌝ }
+    requires { ⌜ (stamp ≤ mostStamp) × (word < (stamp + 1) * stampUnit) ⌝ }
     ensures { λ r. ⌜ r ≡ bitsIn stamp word ⌝ }
-    ensures { λ r. ⌜ r < 4096 ⌝ }
+    ensures { λ r. ⌜ r < stampUnit ⌝ }
 {
-    let first = stamp * 4096;
+    let first = stamp * marks::STAMP;
     if word < first {
         return 0;
     }
@@ -71,7 +71,7 @@ fn visit(w: &mut [u32], g: Shape, stamp: u32, i: usize, n: usize) -> usize
     requires { ⌜ (i < g .m) × (tileIn g (now w) i < g .t) ⌝ }
     requires { ⌜ ((d : ℕ) → d < 4 → bitOf (marksIn g stamp (now w) i) (8 + d) ≡ true → WayRoom g (tileIn g (now w) i) d) ⌝ }
     requires { ⌜ n + length (branchesIn g stamp (now w) i) ≤ g .m ⌝ }
-    requires { ⌜ (stamp ≤ 8192) × (getD (now w) (tilesAt g + tileIn g (now w) i) 0 < (stamp + 1) * 4096) ⌝ }
+    requires { ⌜ (stamp ≤ mostStamp) × (getD (now w) (tilesAt g + tileIn g (now w) i) 0 < (stamp + 1) * stampUnit) ⌝ }
     ensures { λ r. ⌜ r ≡ n + length (branchesIn g stamp (now (w .entry)) i) ⌝ }
     ensures { λ _. ⌜ now (w .exit) ≡ visited g stamp (now (w .entry)) i n ⌝ }
 {
@@ -90,7 +90,7 @@ pub fn walk(w: &mut [u32], g: Shape, stamp: u32, root: usize) -> usize
     requires { ⌜ Shaped g ⌝ }
     requires { ⌜ areasEnd g ≤ length (now w) ⌝ }
     requires { ⌜ WalkReady g stamp root (now w) ⌝ }
-    requires { ⌜ stamp ≤ 8192 ⌝ }
+    requires { ⌜ stamp ≤ mostStamp ⌝ }
     ensures { λ r. ⌜ ((j : Job) (net : Net) → Walks g stamp j net root (now (w .entry)) → Walked g j net (now (w .entry)) (now (w .exit)) r) ⌝ }
 {
     w[layout::stops_at(g)] = root as u32;

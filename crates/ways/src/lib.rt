@@ -8,6 +8,7 @@ ghost use Prim.Native.Nat.{_+_, _/_, _<_, _≤_};
 ghost use lib.ListN.{length};
 ghost use Rattle.layout.specs.Shapes.{Shaped, wayOf};
 ghost use Rattle.marks.specs.Marks.{marksAfter};
+ghost use Rattle.marks.specs.Words.{mostStamp};
 ghost use Rattle.ways.specs.Ends.{firstMark, endsOf, endsAfter};
 
 // What marking an edge found: it is marked already, or how many of its two tiles had no mark.
@@ -36,7 +37,7 @@ pub fn way_on(g: Shape, here: usize, y: usize, d: usize) -> Way
 
 // The way back, marked in the tile where an edge ends: 1 if that tile had no mark.
 fn mark_back(a: &mut [u32], stamp: u32, there: usize, d: u32) -> usize
-    requires { ⌜ (there < length (now a)) × (d ≤ 1) × (stamp ≤ 8192) ⌝ }
+    requires { ⌜ (there < length (now a)) × (d ≤ 1) × (stamp ≤ mostStamp) ⌝ }
     ensures { λ r. ⌜ r ≡ firstMark stamp (now (a .entry)) there ⌝ }
     ensures { λ _. ⌜ now (a .exit) ≡ marksAfter stamp (now (a .entry)) there (10 + d) ⌝ }
 {
@@ -49,7 +50,7 @@ fn mark_back(a: &mut [u32], stamp: u32, there: usize, d: u32) -> usize
 
 // Marks an edge in its two tiles: way d, 0 for east and 1 for north, where it starts, and where it ends the way back, d + 2.
 pub fn mark_ends(a: &mut [u32], stamp: u32, here: usize, there: usize, d: u32) -> Ends
-    requires { ⌜ (here < length (now a)) × (there < length (now a)) × (d ≤ 1) × (stamp ≤ 8192) ⌝ }
+    requires { ⌜ (here < length (now a)) × (there < length (now a)) × (d ≤ 1) × (stamp ≤ mostStamp) ⌝ }
     ensures { λ r. ⌜ r ≡ endsOf stamp (now (a .entry)) here there d ⌝ }
     ensures { λ _. ⌜ now (a .exit) ≡ endsAfter stamp (now (a .entry)) here there d ⌝ }
 {

@@ -8,6 +8,7 @@ use Prim.Native.Nat.{ℕ, _+_, _*_, max, min}
 use native.Mathlib.Omega.{arith}
 use lib.ListN.{set}
 use borrow.Author.Needs.{needs}
+use Rattle.marks.specs.Words.{stampUnit}
 use Rattle.union.specs.Links.{Merged}
 use Rattle.union.proofs.Words.{merged-one, merged-two}
 use Rattle.union.proofs.join.Statement.{statement}
@@ -33,7 +34,7 @@ module _ (k : tie.After-slice-known3) where
   one : p ≡ q → Merged (start .args .stamp) (start .args .a .now) (start .args .x) (start .args .y) words false
   one = merged-one (start .args .stamp) (start .args .a .now) (start .args .x) (start .args .y) (first .root .last .0) p words q (first .root .ensures) (k .before .before .root2 .ensures)
 
-  two : p ≢ q → (m v : ℕ) (d : List ℕ) → m ≡ max p q → v ≡ min p q → d ≡ set words m (start .args .stamp * 4096 + v)
+  two : p ≢ q → (m v : ℕ) (d : List ℕ) → m ≡ max p q → v ≡ min p q → d ≡ set words m (start .args .stamp * stampUnit + v)
       → Merged (start .args .stamp) (start .args .a .now) (start .args .x) (start .args .y) d true
   two = merged-two (start .args .stamp) (start .args .a .now) (start .args .x) (start .args .y) (first .root .last .0) p words q (first .root .ensures) (k .before .before .root2 .ensures) (start .pre .1)
 

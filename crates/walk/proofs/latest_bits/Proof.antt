@@ -4,15 +4,15 @@ use mathlib.Core.Path.{_≡_, sym, ap, _∙_}
 use Prim.Native.Nat.{ℕ, _+_, _-_, _*_, _≤_, _<_}
 use native.Mathlib.Omega.{arith}
 use borrow.Author.Needs.{needs}
-use Rattle.marks.specs.Words.{bitsIn, bits-new, bits-old}
+use Rattle.marks.specs.Words.{bitsIn, bits-new, bits-old, stampUnit}
 use Rattle.walk.proofs.latest_bits.Statement.{statement}
 use Rattle.walk.proofs.latest_bits.Tie as tie
 
 -- a word at the stamp
-at-stamp : (n w : ℕ) → n * 4096 ≤ w → w < (n + 1) * 4096 → w - n * 4096 ≡ bitsIn n w
+at-stamp : (n w : ℕ) → n * stampUnit ≤ w → w < (n + 1) * stampUnit → w - n * stampUnit ≡ bitsIn n w
 at-stamp n w h l =
-    let e : w ≡ n * 4096 + (w - n * 4096) = omega arith in
-    sym (ap (bitsIn n) e ∙ bits-new n (w - n * 4096) (omega arith))
+    let e : w ≡ n * stampUnit + (w - n * stampUnit) = omega arith in
+    sym (ap (bitsIn n) e ∙ bits-new n (w - n * stampUnit) (omega arith))
 
 returns : tie.Need-returns
 returns c = (sym (bits-old (c .before .args .stamp) (c .before .args .word) (omega arith)), omega arith)
