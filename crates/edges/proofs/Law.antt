@@ -8,10 +8,11 @@ use Prim.Native.Nat.{ℕ, suc, _+_, _≤_}
 use native.Mathlib.Omega.{arith}
 use lib.Dec.{eqb}
 use lib.ListN.{length, drop, getD, drop-of-length-le}
+use Rattle.layout.specs.Shapes.{sizesOf}
 use Rattle.layout.specs.declared.Shape.{Shape}
 use Rattle.model.specs.Job.{Pin}
 use Rattle.model.specs.Lists.{all, twice}
-use Rattle.model.specs.Read.{Place, Result, refused, found, Reading as Reads, next, _>>=_, _>>_, give, form, need, line, Triple, edgeEntries, edgeInside, edgeAt, edgesLine}
+use Rattle.model.specs.Read.{Place, Result, refused, found, Reading as Reads, next, _>>=_, _>>_, give, form, need, line, Sizes, Triple, edgeEntries, edgeInside, edgeAt, edgesLine}
 use Rattle.model.specs.Text.{bytes, cutLine, behind}
 use Rattle.model.specs.Tree.{ring, joined}
 use Rattle.scan.specs.Lines.{Lined}
@@ -31,7 +32,13 @@ use Rattle.edges.specs.declared.EdgesRead.the-variants.{Line, Refused}
 use Rattle.edges.specs.declared.Judged.the-variants.{Fine}
 use Rattle.edges.proofs.Loop.{shown-start, read-end}
 
-module _ (W H : ℕ) (ps : List Pin) where
+module _ (z : Sizes) (ps : List Pin) where
+  abbrev W : ℕ
+  W = z .width
+
+  abbrev H : ℕ
+  H = z .height
+
   -- the tests after form and range
   abbrev tested : List Triple → Reads (List ℕ)
   tested ts = do
@@ -41,7 +48,7 @@ module _ (W H : ℕ) (ps : List Pin) where
     need 8 (joined W H ps edges)
     give edges
 
-  ranged-then : (p : Place) → edgesLine W H ps p ≡ next (edgesRanged W H p) tested
+  ranged-then : (p : Place) → edgesLine z ps p ≡ next (edgesRanged W H p) tested
   unfolding edgesLine edgesRanged
   ranged-then p = go (line 2 "edges" p)
     where
@@ -82,13 +89,13 @@ module _ (W H : ℕ) (ps : List Pin) where
 
   -- the line that was opened at c
   module _ (s : List ℕ) (c : Cursor) (o : Opened) (e : o ≡ openedOf s c (bytes "edges=")) where
-    reads : edgesLine W H ps (placeOf s c) ≡ next (edgesKey W H (suc (c .line)) (behind (bytes "edges=") (drop (c .at) s))) tested
+    reads : edgesLine z ps (placeOf s c) ≡ next (edgesKey W H (suc (c .line)) (behind (bytes "edges=") (drop (c .at) s))) tested
     reads = ranged-then _ ∙ ap (λ (r : Result (List Triple)). next r tested) (edges-law W H (c .line) (drop (c .at) s))
 
-    line-other : o .there ≡ false → edgesLine W H ps (placeOf s c) ≡ refused 2 (o .place .line)
+    line-other : o .there ≡ false → edgesLine z ps (placeOf s c) ≡ refused 2 (o .place .line)
     line-other t = reads ∙ key-other s c (bytes "edges=") o e (λ n u. next (edgesKey W H n u) tested) t
 
-    line-there : o .there ≡ true → edgesLine W H ps (placeOf s c) ≡ judgedLine W H ps (o .place .line) (edgesCut (cutLine (drop (o .place .at) s)))
+    line-there : o .there ≡ true → edgesLine z ps (placeOf s c) ≡ judgedLine W H ps (o .place .line) (edgesCut (cutLine (drop (o .place .at) s)))
     line-there t = reads ∙ key-there s c (bytes "edges=") o e (λ n u. next (edgesKey W H n u) tested) t ∙ judged-then (o .place .line) (edgesCut (cutLine (drop (o .place .at) s)))
 
 -- ---- the value, from c on
@@ -114,10 +121,10 @@ module _ (g : Shape) (n : ℕ) (s : List ℕ) (c : Cursor) (ps : List Pin) (w₀
 
 module _ (g : Shape) (n : ℕ) (s : List ℕ) (c : Cursor) (o : Opened) (e : o ≡ openedOf s c (bytes "edges=")) (ps : List Pin) (w₀ w : List ℕ) where
   pub read-other : o .there ≡ false → LineRead g n s c ps w₀ w (Refused (OnLine Form (o .place .line)))
-  read-other t = line-other (g .w) (g .h) ps s c o e t
+  read-other t = line-other (sizesOf g) ps s c o e t
 
   pub read-there : c .at ≤ length s → o .there ≡ true → (r : EdgesRead) → EntriesRead g n s (o .place) ps w₀ w (edgesCut (cutLine (drop (o .place .at) s))) r → LineRead g n s c ps w₀ w r
-  read-there h t (Refused f) k = line-there (g .w) (g .h) ps s c o e t ∙ k
+  read-there h t (Refused f) k = line-there (sizesOf g) ps s c o e t ∙ k
   read-there h t (Line i d) k = record {
     from-in = omega (arith, k .0, place-within s c (bytes "edges=") o e h t);
     line = record {
@@ -131,5 +138,5 @@ module _ (g : Shape) (n : ℕ) (s : List ℕ) (c : Cursor) (o : Opened) (e : o �
       after = record { place = k .1 .after .place; lines = k .1 .after .lines ∙ ap (λ (x : Opened). x .place .line) e };
       reading = k .1 .reading;
     };
-    is = line-there (g .w) (g .h) ps s c o e t ∙ rw (k .1 .text, k .1 .inside, k .1 .once, k .1 .no-ring, k .1 .reached, k .1 .after .lines);
+    is = line-there (sizesOf g) ps s c o e t ∙ rw (k .1 .text, k .1 .inside, k .1 .once, k .1 .no-ring, k .1 .reached, k .1 .after .lines);
   }

@@ -7,6 +7,7 @@ use mathlib.Core.Path.{_≡_}
 use Prim.Native.Nat.{ℕ, _+_, _≤_}
 use lib.Dec.{eqb}
 use lib.ListN.{length, drop}
+use Rattle.layout.specs.Shapes.{sizesOf}
 use Rattle.layout.specs.declared.Shape.{Shape}
 use Rattle.model.specs.Job.{Pin}
 use Rattle.model.specs.Lists.{all, twice}
@@ -68,9 +69,9 @@ EntriesRead g n s c ps w₀ w r (Line e d) = (e .from ≡ c .at) × EdgesFound g
 pub record LineFound (g : Shape) (n : ℕ) (s : List ℕ) (c : Cursor) (ps : List Pin) (w₀ w : List ℕ) (e : Edges) (d : Cursor) : Type 0 where
   pub from-in : e .from ≤ length s
   pub line : EdgesFound g n s (c .line + 1) ps w₀ w (edgesCut (cutLine (drop (e .from) s))) e d
-  pub is : edgesLine (g .w) (g .h) ps (placeOf s c) ≡ found (edgesOn g (line .entries)) (placeOf s d)
+  pub is : edgesLine (sizesOf g) ps (placeOf s c) ≡ found (edgesOn g (line .entries)) (placeOf s d)
 
 -- the answer to the line at a place
 abbrev pub LineRead : Shape → ℕ → List ℕ → Cursor → List Pin → List ℕ → List ℕ → EdgesRead → Type 0
-LineRead g n s c ps w₀ w (Refused f) = edgesLine (g .w) (g .h) ps (placeOf s c) ≡ refusedBy f
+LineRead g n s c ps w₀ w (Refused f) = edgesLine (sizesOf g) ps (placeOf s c) ≡ refusedBy f
 LineRead g n s c ps w₀ w (Line e d) = LineFound g n s c ps w₀ w e d

@@ -10,7 +10,7 @@ use lib.Dec.{eqb}
 use lib.ListN.{length, drop}
 use Rattle.layout.specs.Areas.{demandAt, tilesAt, linksAt, chosenAt}
 use Rattle.layout.specs.Parts.{Outside, part-long, part-outside}
-use Rattle.layout.specs.Shapes.{Shaped}
+use Rattle.layout.specs.Shapes.{sizesOf, Shaped}
 use Rattle.layout.specs.declared.Shape.{Shape}
 use Rattle.marks.specs.Marks.{bitsAt, marked, touched, Older, mark-long, mark-touches, none-yet, none-marked, older-fits}
 use Rattle.model.specs.Job.{Pin}
@@ -44,9 +44,9 @@ pub record PinsFit (g : Shape) (ps : List Pin) : Type 0 where
   pub inside : AllInside (g .t) ps
   pub once : twice samePin ps ≡ false
 
-pub pins-fit-grid : (g : Shape) → Shaped g → (p q : Place) (ps : List Pin) → pinsLine (g .w) (g .h) (g .k) p ≡ found ps q → PinsFit g ps
+pub pins-fit-grid : (g : Shape) → Shaped g → (p q : Place) (ps : List Pin) → pinsLine (sizesOf g) p ≡ found ps q → PinsFit g ps
 pins-fit-grid g shaped p q ps e =
-    let k = gives-found (PinsOk (g .w) (g .h) (g .k)) (pinsLine (g .w) (g .h) (g .k) p) ps q e (pins-give (g .w) (g .h) (g .k) p) in
+    let k = gives-found (PinsOk (g .w) (g .h) (g .k)) (pinsLine (sizesOf g) p) ps q e (pins-give (g .w) (g .h) (g .k) p) in
     record { some-pin = k .0; inside = go ps (k .1) (k .2); once = k .3 }
   where
     go : (qs : List Pin) → ((t : ℕ) → In t (pinTiles qs) → t < g .w * g .h) → EachPin (λ r. (1 ≤ r .layer) × (r .layer ≤ g .k)) qs → AllInside (g .t) qs
@@ -59,17 +59,17 @@ pins-fit-grid g shaped p q ps e =
 -- what the answer to a `pins` line says, where it is fine: the pins, and that the marks a are those of earlier nets, b, and theirs
 pub record PinsFound (g : Shape) (n : ℕ) (s : List ℕ) (c : Cursor) (b a : List ℕ) (p : Pins) (d : Cursor) : Type 0 where
   pub pins : List Pin
-  pub is : pinsLine (g .w) (g .h) (g .k) (placeOf s c) ≡ found pins (placeOf s d)
+  pub is : pinsLine (sizesOf g) (placeOf s c) ≡ found pins (placeOf s d)
   pub fit : PinsFit g pins
   pub marks : a ≡ markPins n b pins
   pub count : p .entries ≡ length pins
   pub parts : p .tiles ≡ newTiles n b pins
 
 pub pins-found : (g : Shape) → Shaped g → (n : ℕ) (s : List ℕ) (c : Cursor) (b a : List ℕ) (p : Pins) (d : Cursor)
-    → pinsTold s a (Line p d) ≡ mapped (pinsMarked n b) (pinsLine (g .w) (g .h) (g .k) (placeOf s c)) → PinsFound g n s c b a p d
-pins-found g shaped n s c b a p d e = go (pinsLine (g .w) (g .h) (g .k) (placeOf s c)) refl e
+    → pinsTold s a (Line p d) ≡ mapped (pinsMarked n b) (pinsLine (sizesOf g) (placeOf s c)) → PinsFound g n s c b a p d
+pins-found g shaped n s c b a p d e = go (pinsLine (sizesOf g) (placeOf s c)) refl e
   where
-    go : (r : Result (List Pin)) → pinsLine (g .w) (g .h) (g .k) (placeOf s c) ≡ r → pinsTold s a (Line p d) ≡ mapped (pinsMarked n b) r → PinsFound g n s c b a p d
+    go : (r : Result (List Pin)) → pinsLine (sizesOf g) (placeOf s c) ≡ r → pinsTold s a (Line p d) ≡ mapped (pinsMarked n b) r → PinsFound g n s c b a p d
     go (refused k j) h q = absurd (let y : _≡_ {A = ℕ} 0 1 = cc in omega arith)
     go (found ps t) h q =
         let left : record { marks = a; entries = p .entries; tiles = p .tiles } ≡ pinsMarked n b ps = cc in

@@ -81,7 +81,7 @@ headIn size working order = do
 -- the nets and the end of the text, after the head
 unfoldable pub restIn : Lent → HeadJob → Reading Job
 restIn lent h = do
-  ns ← nets (h .width) (h .height) (h .layers) 1 (h .nets)
+  ns ← nets (record { width = h .width; height = h .height; layers = h .layers }) 1 (h .nets)
   end
   let job : Job = record {
     width = h .width;

@@ -8,6 +8,7 @@ use native.Mathlib.Omega.{arith}
 use lib.Dec.{ltb}
 use Rattle.model.specs.Grid.{tiles, eastCount, northCount, gridEdges}
 use Rattle.model.specs.Limits.{leastSide, mostSide, leastLayers, mostLayers}
+use Rattle.model.specs.Read.{Sizes}
 use Rattle.layout.specs.declared.Made.{Made}
 use Rattle.layout.specs.declared.Made.the-variants.{Stack as stacked, Outside}
 use Rattle.layout.specs.declared.Shape.{Shape}
@@ -23,6 +24,10 @@ shapeOf W H K = record { w = W; h = H; k = K; t = tiles W H; m = tiles W H; east
 -- the most tiles of a grid
 abbrev pub mostTiles : ℕ
 mostTiles = mostSide * mostSide
+
+-- what the lines of a net are judged by
+abbrev pub sizesOf : Shape → Sizes
+sizesOf g = record { width = g .w; height = g .h; layers = g .k }
 
 -- a shape of sizes within document 01's limits, and how large its numbers can be
 pub record Shaped (g : Shape) : Type 0 where

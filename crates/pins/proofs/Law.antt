@@ -8,7 +8,7 @@ use Prim.Native.Nat.{ℕ, suc, _+_, _*_, _-_, _≤_, _<_}
 use native.Mathlib.Omega.{arith}
 use lib.ListN.{length, drop}
 use Rattle.layout.specs.declared.Shape.{Shape}
-use Rattle.layout.specs.Shapes.{Shaped, tile-below}
+use Rattle.layout.specs.Shapes.{sizesOf, Shaped, tile-below}
 use Rattle.marks.specs.Marks.{Older}
 use Rattle.model.specs.Job.{Pin}
 use Rattle.model.specs.Lists.{all, twice}
@@ -74,13 +74,13 @@ module _ (g : Shape) (shaped : Shaped g) (n : ℕ) (a : List ℕ) (older : Older
 
   -- the line that was opened at c
   module _ (s : List ℕ) (c : Cursor) (o : Opened) (e : o ≡ openedOf s c (bytes "pins=")) where
-    reads : pinsLine (g .w) (g .h) (g .k) (placeOf s c) ≡ onKey (g .w) (g .h) (g .k) (suc (c .line)) (behind (bytes "pins=") (drop (c .at) s))
-    reads = pins-law (g .w) (g .h) (g .k) (c .line) (drop (c .at) s)
+    reads : pinsLine (sizesOf g) (placeOf s c) ≡ onKey (g .w) (g .h) (g .k) (suc (c .line)) (behind (bytes "pins=") (drop (c .at) s))
+    reads = pins-law (sizesOf g) (c .line) (drop (c .at) s)
 
-    pub line-other : o .there ≡ false → refused 2 (o .place .line) ≡ mapped (pinsMarked n a) (pinsLine (g .w) (g .h) (g .k) (placeOf s c))
+    pub line-other : o .there ≡ false → refused 2 (o .place .line) ≡ mapped (pinsMarked n a) (pinsLine (sizesOf g) (placeOf s c))
     line-other t = sym (ap (mapped (pinsMarked n a)) (reads ∙ key-other s c (bytes "pins=") o e (onKey (g .w) (g .h) (g .k)) t))
 
-    pub line-there : o .there ≡ true → finish g n (o .place .line) start a (pinsOf (drop (o .place .at) s)) ≡ mapped (pinsMarked n a) (pinsLine (g .w) (g .h) (g .k) (placeOf s c))
+    pub line-there : o .there ≡ true → finish g n (o .place .line) start a (pinsOf (drop (o .place .at) s)) ≡ mapped (pinsMarked n a) (pinsLine (sizesOf g) (placeOf s c))
     line-there t =
         finish-law (o .place .line) (pinsOf (drop (o .place .at) s))
         ∙ sym (ap (mapped (pinsMarked n a)) (reads ∙ key-there s c (bytes "pins=") o e (onKey (g .w) (g .h) (g .k)) t))

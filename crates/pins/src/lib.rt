@@ -8,7 +8,7 @@ ghost use mathlib.Core.Path.{_≡_};
 ghost use mathlib.Core.Bool.{true, false};
 ghost use Prim.Native.Nat.{ℕ, _+_, _-_, _*_, _<_, _≤_};
 ghost use lib.ListN.{length, drop};
-ghost use Rattle.layout.specs.Shapes.{Shaped};
+ghost use Rattle.layout.specs.Shapes.{sizesOf, Shaped};
 ghost use Rattle.marks.specs.Marks.{marksAfter, Older};
 ghost use Rattle.model.specs.Read.{pinInside, pinsLine};
 ghost use Rattle.scan.specs.Pins.{triple, pinsOf};
@@ -157,7 +157,7 @@ pub fn pins_line(s: &[u8], c: Cursor, a: &mut [u32], g: Shape, stamp: u32) -> Pi
     requires { ⌜ Shaped g ⌝ }
     requires { ⌜ (g .t ≤ length (now a)) × (stamp ≤ 8192) × (length (now s) ≤ 1048576) × (c .at ≤ length (now s)) × (c .line < 1048576) ⌝ }
     requires { ⌜ Older stamp (now a) ⌝ }
-    ensures { λ r. ⌜ pinsTold (now (s .entry)) (now (a .exit)) r ≡ mapped (pinsMarked stamp (now (a .entry))) (pinsLine (g .w) (g .h) (g .k) (placeOf (now (s .entry)) c)) ⌝ }
+    ensures { λ r. ⌜ pinsTold (now (s .entry)) (now (a .exit)) r ≡ mapped (pinsMarked stamp (now (a .entry))) (pinsLine (sizesOf g) (placeOf (now (s .entry)) c)) ⌝ }
     ensures { λ r. ⌜ pinsIn (length (now (s .entry))) (c .at + 5) (c .line + 1) r ⌝ }
     ensures { λ _. ⌜ length (now (a .exit)) ≡ length (now (a .entry)) ⌝ }
 {

@@ -13,7 +13,7 @@ use Rattle.edges.specs.declared.EdgesRead.{EdgesRead}
 use Rattle.edges.specs.declared.EdgesRead.the-variants.{Refused as BadEdges}
 use Rattle.layout.specs.Areas.{demandAt, tilesAt, chosenAt}
 use Rattle.layout.specs.Parts.{Outside}
-use Rattle.layout.specs.Shapes.{Shaped}
+use Rattle.layout.specs.Shapes.{sizesOf, Shaped}
 use Rattle.layout.specs.Table.{tableSize}
 use Rattle.layout.specs.declared.Shape.{Shape}
 use Rattle.lines.specs.Told.{After, mapped, refusedBy}
@@ -40,12 +40,12 @@ use Rattle.reader.specs.Nets.{bodyIn, NetReady, NetCounted, NetFound}
 use Rattle.reader.proofs.Stand.{pins-stand, row-long, row-others, row-stands}
 
 -- a net whose two lines the definitions found
-net-ok : (W H K : ℕ) (net : Net) (p q r t : Place) → pinsLine W H K p ≡ found (net .pins) q → edgesLine W H (net .pins) r ≡ found (net .edges) t → NetOk W H K net
-net-ok W H K net p q r t a b =
-    go (gives-found (PinsOk W H K) (pinsLine W H K p) (net .pins) q a (pins-give W H K p))
-    (gives-found (EdgesOk W H K (net .pins)) (edgesLine W H (net .pins) r) (net .edges) t b (edges-give W H K (net .pins) r))
+net-ok : (g : Shape) (net : Net) (p q r t : Place) → pinsLine (sizesOf g) p ≡ found (net .pins) q → edgesLine (sizesOf g) (net .pins) r ≡ found (net .edges) t → NetOk (g .w) (g .h) (g .k) net
+net-ok g net p q r t a b =
+    go (gives-found (PinsOk (g .w) (g .h) (g .k)) (pinsLine (sizesOf g) p) (net .pins) q a (pins-give (g .w) (g .h) (g .k) p))
+    (gives-found (EdgesOk (g .w) (g .h) (g .k) (net .pins)) (edgesLine (sizesOf g) (net .pins) r) (net .edges) t b (edges-give (g .w) (g .h) (g .k) (net .pins) r))
   where
-    go : PinsOk W H K (net .pins) → EdgesOk W H K (net .pins) (net .edges) → NetOk W H K net
+    go : PinsOk (g .w) (g .h) (g .k) (net .pins) → EdgesOk (g .w) (g .h) (g .k) (net .pins) (net .edges) → NetOk (g .w) (g .h) (g .k) net
     go x y = record {
       some-pin = x .0;
       pins-inside = x .1;
@@ -89,14 +89,14 @@ module _ (s : List ℕ) (c : Cursor) (g : Shape) (shaped : Shaped g) (i : ℕ) (
   K = g .k
 
   -- the `pins` line is refused
-  pub pins-bad : (a : List ℕ) (r : PinsRead) → pinsTold s a r ≡ mapped (pinsMarked (i + 1) (tilesOf g w₀)) (pinsLine (g .w) (g .h) (g .k) (placeOf s c))
-      → (f : Refusal) → r ≡ BadPins f → bodyIn (g .w) (g .h) (g .k) (placeOf s c) ≡ refusedBy f
+  pub pins-bad : (a : List ℕ) (r : PinsRead) → pinsTold s a r ≡ mapped (pinsMarked (i + 1) (tilesOf g w₀)) (pinsLine (sizesOf g) (placeOf s c))
+      → (f : Refusal) → r ≡ BadPins f → bodyIn (sizesOf g) (placeOf s c) ≡ refusedBy f
   unfolding bodyIn
   pins-bad a r told f e =
-      rw (mapped-refused (pinsMarked (i + 1) (tilesOf g w₀)) (pinsLine W H K (placeOf s c)) (numberOf f) (lineOf f) (ap (pinsTold s a) (sym e) ∙ told))
+      rw (mapped-refused (pinsMarked (i + 1) (tilesOf g w₀)) (pinsLine (sizesOf g) (placeOf s c)) (numberOf f) (lineOf f) (ap (pinsTold s a) (sym e) ∙ told))
 
   -- it is fine
-  module _ (w₁ : List ℕ) (p : Pins) (d : Cursor) (told : pinsTold s (tilesOf g w₁) (PinsLine p d) ≡ mapped (pinsMarked (i + 1) (tilesOf g w₀)) (pinsLine (g .w) (g .h) (g .k) (placeOf s c)))
+  module _ (w₁ : List ℕ) (p : Pins) (d : Cursor) (told : pinsTold s (tilesOf g w₁) (PinsLine p d) ≡ mapped (pinsMarked (i + 1) (tilesOf g w₀)) (pinsLine (sizesOf g) (placeOf s c)))
       (out : Outside (tilesAt g) (g .t) w₀ w₁) (at : (p .from ≡ c .at + 5) × After (length s) (c .line + 1) d) where
     pub fine : PinsFound g (i + 1) s c (tilesOf g w₀) (tilesOf g w₁) p d
     fine = pins-found g shaped (i + 1) s c (tilesOf g w₀) (tilesOf g w₁) p d told
@@ -118,7 +118,7 @@ module _ (s : List ℕ) (c : Cursor) (g : Shape) (shaped : Shaped g) (i : ℕ) (
         (pins-reading g (i + 1) (fine .pins) (fine .fit) w₀ w₁ (ready .room) (λ t. omega (arith, ready .marks t)) (λ t. omega (arith, ready .links t)) out (fine .marks))
 
     -- the `edges` line is refused
-    pub edges-bad : (w₂ : List ℕ) (r : EdgesRead) → LineRead g (i + 1) s d (fine .pins) w₀ w₂ r → (f : Refusal) → r ≡ BadEdges f → bodyIn (g .w) (g .h) (g .k) (placeOf s c) ≡ refusedBy f
+    pub edges-bad : (w₂ : List ℕ) (r : EdgesRead) → LineRead g (i + 1) s d (fine .pins) w₀ w₂ r → (f : Refusal) → r ≡ BadEdges f → bodyIn (sizesOf g) (placeOf s c) ≡ refusedBy f
     unfolding bodyIn
     edges-bad w₂ r line f e = rw (fine .is, subst (λ (z : EdgesRead). LineRead g (i + 1) s d (fine .pins) w₀ w₂ z) e line)
 
@@ -128,7 +128,7 @@ module _ (s : List ℕ) (c : Cursor) (g : Shape) (shaped : Shaped g) (i : ℕ) (
       net = record { pins = fine .pins; edges = edgesOn g (line .line .entries) }
 
       pub ok : NetOk (g .w) (g .h) (g .k) (record { pins = fine .pins; edges = edgesOn g (line .line .entries) })
-      ok = net-ok W H K net (placeOf s c) _ _ _ (fine .is) (line .is)
+      ok = net-ok g net (placeOf s c) _ _ _ (fine .is) (line .is)
 
       pub pins-number : p .entries ≤ 16777216
       pins-number = omega (arith, fine .count, pins-few W H K net (shaped .k-most) ok, shaped .t-is, shaped .t-most)
@@ -157,7 +157,7 @@ module _ (s : List ℕ) (c : Cursor) (g : Shape) (shaped : Shaped g) (i : ℕ) (
           }
 
       pub body-found : (table : List ℕ) (first : ℕ) → tableSize ≤ length table
-          → NetFound s g i first (c .line + 2) w₀ w₂ table (rowPut table i (p .from) (e .from) (p .entries) first (e .entries)) (bodyIn (g .w) (g .h) (g .k) (placeOf s c)) f (e .entries)
+          → NetFound s g i first (c .line + 2) w₀ w₂ table (rowPut table i (p .from) (e .from) (p .entries) first (e .entries)) (bodyIn (sizesOf g) (placeOf s c)) f (e .entries)
       unfolding bodyIn
       body-found table first room = record {
         net = net;

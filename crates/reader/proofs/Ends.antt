@@ -12,6 +12,7 @@ use lib.Seq.{drop-cons}
 use Rattle.head.specs.Reads.{restIn}
 use Rattle.head.specs.Told.{headJob}
 use Rattle.head.specs.declared.Head.{Head}
+use Rattle.layout.specs.Shapes.{sizesOf}
 use Rattle.lines.specs.Told.{refusedBy}
 use Rattle.lines.specs.declared.Listed.{Listed}
 use Rattle.lines.specs.declared.Listed.the-variants.{Next, Refused as Unlisted}
@@ -59,18 +60,18 @@ nets-found s h n line w₀ w table r v d entries e t = subst (λ (x : NetsRead).
 
 module _ (s : List ℕ) (h : Head) (answer : ℕ) (print : PrintRoom) (p : Place) (w₀ : List ℕ) where
   abbrev all : Result (List Net)
-  all = nets (h .shape .w) (h .shape .h) (h .shape .k) 1 (h .nets) p
+  all = nets (sizesOf (h .shape)) 1 (h .nets) p
 
   abbrev ended : List Net → Place → Result Job
   ended ns q = next (endIn (h .nets) (entryCount (jobOf h w₀ ns)) answer (printLent print) q) (λ u. give (jobOf h w₀ ns))
 
-  pub rest-no-nets : (f : Refusal) → nets (h .shape .w) (h .shape .h) (h .shape .k) 1 (h .nets) p ≡ refusedBy f
+  pub rest-no-nets : (f : Refusal) → nets (sizesOf (h .shape)) 1 (h .nets) p ≡ refusedBy f
       → (working order : ℕ) → restIn (lentBy working order answer print) (headJob h w₀) p ≡ refusedBy f
   rest-no-nets f e working order =
       rest-splits (lentBy working order answer print) h w₀ p ∙ ap (λ (r : Result (List Net)). next r ended) e
 
   module _ (line : ℕ) (w table : List ℕ) (d : Cursor) (entries : ℕ)
-      (k : NetsFound s (h .shape) (h .nets) line w₀ w table (nets (h .shape .w) (h .shape .h) (h .shape .k) 1 (h .nets) p) d entries) where
+      (k : NetsFound s (h .shape) (h .nets) line w₀ w table (nets (sizesOf (h .shape)) 1 (h .nets) p) d entries) where
     -- after the nets the end is read
     rest-ends : (working order : ℕ) → restIn (lentBy working order answer print) (headJob h w₀) p
         ≡ next (endIn (h .nets) entries answer (printLent print) (placeOf s d)) (λ u. give (jobOf h w₀ (k .nets)))

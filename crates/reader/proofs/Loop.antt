@@ -9,7 +9,7 @@ use lib.ListN.{length, getD, drop, length-append, length-take, List·getD-append
 use lib.Seq.{getD-append-seam}
 use Rattle.layout.specs.Areas.{demandAt, tilesAt, linksAt, chosenAt}
 use Rattle.layout.specs.Parts.{part, part-at}
-use Rattle.layout.specs.Shapes.{Shaped}
+use Rattle.layout.specs.Shapes.{sizesOf, Shaped}
 use Rattle.layout.specs.Table.{pinsColumn, edgesColumn, entriesColumn, firstColumn, countColumn}
 use Rattle.layout.specs.declared.Shape.{Shape}
 use Rattle.lines.specs.Told.{refusedBy}
@@ -123,7 +123,7 @@ module _ (s : List ℕ) (g : Shape) (shaped : Shaped g) where
     }
 
     module _ (i : ℕ) (count-is : length ns ≡ i) (line : ℕ) (w′ table′ : List ℕ) (p : Place) (c : Cursor) (count : ℕ)
-        (found-net : NetFound s g i entries line w w′ table table′ (netLines (g .w) (g .h) (g .k) (i + 1) p) c count) where
+        (found-net : NetFound s g i entries line w w′ table table′ (netLines (sizesOf g) (i + 1) p) c count) where
       abbrev net : Net
       net = found-net .net
 
@@ -135,7 +135,7 @@ module _ (s : List ℕ) (g : Shape) (shaped : Shaped g) where
 
       net-is-ok : NetOk (g .w) (g .h) (g .k) (found-net .net)
       net-is-ok =
-          gives-found (NetOk (g .w) (g .h) (g .k)) (netLines (g .w) (g .h) (g .k) (i + 1) p) net (placeOf s c) (found-net .is) (net-gives (g .w) (g .h) (g .k) (i + 1) p)
+          gives-found (NetOk (g .w) (g .h) (g .k)) (netLines (sizesOf g) (i + 1) p) net (placeOf s c) (found-net .is) (net-gives (g .w) (g .h) (g .k) (i + 1) p)
 
       rows-more : (k : ℕ) → k < length (ns ++ (found-net .net ∷ []))
           → RowAt s (g .w) (g .h) (g .k) table′ k (offset (edgesOf (ns ++ (found-net .net ∷ []))) k) (getD (ns ++ (found-net .net ∷ [])) k noNet)
@@ -186,10 +186,10 @@ pub record Midway (s : List ℕ) (g : Shape) (n from : ℕ) (w₀ w table : List
   pub so-read : SoRead s g done entries w₀ w table
   pub place : c .at ≤ length s
   pub lines : c .line ≡ from + 3 * i
-  pub left : r ≡ ahead done (nets (g .w) (g .h) (g .k) (suc i) (n - i) (placeOf s c))
+  pub left : r ≡ ahead done (nets (sizesOf g) (suc i) (n - i) (placeOf s c))
 
 module _ (s : List ℕ) (g : Shape) (shaped : Shaped g) (n from : ℕ) (w₀ : List ℕ) (r : Result (List Net)) where
-  pub midway-start : (table : List ℕ) (c : Cursor) → NetsReady g w₀ table → c .at ≤ length s → c .line ≡ from → r ≡ nets (g .w) (g .h) (g .k) 1 n (placeOf s c)
+  pub midway-start : (table : List ℕ) (c : Cursor) → NetsReady g w₀ table → c .at ≤ length s → c .line ≡ from → r ≡ nets (sizesOf g) 1 n (placeOf s c)
       → Midway s g n from w₀ w₀ table r c 0 0
   midway-start table c ready at line e =
       let all : n ≡ n - 0 = omega arith in
@@ -200,7 +200,7 @@ module _ (s : List ℕ) (g : Shape) (shaped : Shaped g) (n from : ℕ) (w₀ : L
         so-read = nets-start s g shaped w₀ table ready;
         place = at;
         lines = omega arith;
-        left = e ∙ ap (λ (m : ℕ). nets (g .w) (g .h) (g .k) 1 m (placeOf s c)) all ∙ ahead-none (nets (g .w) (g .h) (g .k) 1 (n - 0) (placeOf s c));
+        left = e ∙ ap (λ (m : ℕ). nets (sizesOf g) 1 m (placeOf s c)) all ∙ ahead-none (nets (sizesOf g) 1 (n - 0) (placeOf s c));
       }
 
   module _ (w table : List ℕ) (c : Cursor) (entries i : ℕ) (mid : Midway s g n from w₀ w table r c entries i) where
@@ -211,20 +211,20 @@ module _ (s : List ℕ) (g : Shape) (shaped : Shaped g) (n from : ℕ) (w₀ : L
     midway-few = omega (arith, nets-few s g shaped (mid .done) entries w₀ w table (mid .so-read), mid .count)
 
     -- the definitions read one net more
-    one-more : i < n → r ≡ ahead (mid .done) (next (netLines (g .w) (g .h) (g .k) (i + 1) (placeOf s c)) (λ m q. next (nets (g .w) (g .h) (g .k) (suc (i + 1)) (n - (i + 1)) q) (λ ms q′. found (m ∷ ms) q′)))
+    one-more : i < n → r ≡ ahead (mid .done) (next (netLines (sizesOf g) (i + 1) (placeOf s c)) (λ m q. next (nets (sizesOf g) (suc (i + 1)) (n - (i + 1)) q) (λ ms q′. found (m ∷ ms) q′)))
     one-more h =
         let less : n - i ≡ suc (n - (i + 1)) = omega arith in
         let number : suc i ≡ i + 1 = omega arith in
         mid .left
-        ∙ ap₂ (λ (a b : ℕ). ahead (mid .done) (nets (g .w) (g .h) (g .k) a b (placeOf s c))) number less
+        ∙ ap₂ (λ (a b : ℕ). ahead (mid .done) (nets (sizesOf g) a b (placeOf s c))) number less
 
-    pub midway-stop : i < n → (f : Refusal) → netLines (g .w) (g .h) (g .k) (i + 1) (placeOf s c) ≡ refusedBy f → r ≡ refusedBy f
+    pub midway-stop : i < n → (f : Refusal) → netLines (sizesOf g) (i + 1) (placeOf s c) ≡ refusedBy f → r ≡ refusedBy f
     midway-stop h f e =
         one-more h
-        ∙ ap (λ (x : Result Net). ahead (mid .done) (next x (λ m q. next (nets (g .w) (g .h) (g .k) (suc (i + 1)) (n - (i + 1)) q) (λ ms q′. found (m ∷ ms) q′)))) e
+        ∙ ap (λ (x : Result Net). ahead (mid .done) (next x (λ m q. next (nets (sizesOf g) (suc (i + 1)) (n - (i + 1)) q) (λ ms q′. found (m ∷ ms) q′)))) e
 
     pub midway-next : i < n → (line : ℕ) (w′ table′ : List ℕ) (d : Cursor) (count : ℕ) → line ≡ c .line + 3
-        → NetFound s g i entries line w w′ table table′ (netLines (g .w) (g .h) (g .k) (i + 1) (placeOf s c)) d count
+        → NetFound s g i entries line w w′ table table′ (netLines (sizesOf g) (i + 1) (placeOf s c)) d count
         → Midway s g n from w₀ w′ table′ r d (entries + count) (i + 1)
     midway-next h line w′ table′ d count l f = record {
       done = mid .done ++ (f .net ∷ []);
@@ -235,12 +235,12 @@ module _ (s : List ℕ) (g : Shape) (shaped : Shaped g) (n from : ℕ) (w₀ : L
       lines = omega (arith, f .after .lines, mid .lines);
       left =
           one-more h
-          ∙ ap (λ (x : Result Net). ahead (mid .done) (next x (λ m q. next (nets (g .w) (g .h) (g .k) (suc (i + 1)) (n - (i + 1)) q) (λ ms q′. found (m ∷ ms) q′)))) (f .is)
-          ∙ ahead-one (mid .done) (f .net) (nets (g .w) (g .h) (g .k) (suc (i + 1)) (n - (i + 1)) (placeOf s d));
+          ∙ ap (λ (x : Result Net). ahead (mid .done) (next x (λ m q. next (nets (sizesOf g) (suc (i + 1)) (n - (i + 1)) q) (λ ms q′. found (m ∷ ms) q′)))) (f .is)
+          ∙ ahead-one (mid .done) (f .net) (nets (sizesOf g) (suc (i + 1)) (n - (i + 1)) (placeOf s d));
     }
 
     pub midway-count : i < n → (line : ℕ) (w′ table′ : List ℕ) (d : Cursor) (count : ℕ) → line ≡ c .line + 3
-        → NetFound s g i entries line w w′ table table′ (netLines (g .w) (g .h) (g .k) (i + 1) (placeOf s c)) d count
+        → NetFound s g i entries line w w′ table table′ (netLines (sizesOf g) (i + 1) (placeOf s c)) d count
         → entries + count ≤ (i + 1) * 4096
     midway-count h line w′ table′ d count l f =
         let m = midway-next h line w′ table′ d count l f in
@@ -252,7 +252,7 @@ module _ (s : List ℕ) (g : Shape) (shaped : Shaped g) (n from : ℕ) (w₀ : L
         let none : n - i ≡ 0 = omega arith in
         record {
           nets = mid .done ++ [];
-          is = mid .left ∙ ap (λ (m : ℕ). ahead (mid .done) (nets (g .w) (g .h) (g .k) (suc i) m (placeOf s c))) none;
+          is = mid .left ∙ ap (λ (m : ℕ). ahead (mid .done) (nets (sizesOf g) (suc i) m (placeOf s c))) none;
           after = record { place = mid .place; lines = omega (arith, mid .lines) };
           count = ap length (append-nil (mid .done)) ∙ mid .count ∙ all;
           so-read = subst (λ (l : List Net). SoRead s g l entries w₀ w table) (sym (append-nil (mid .done))) (mid .so-read);

@@ -38,10 +38,10 @@ module _ (s : List ℕ) (W H K at : ℕ) (net : Net) (n : ℕ) (q : Place) where
   stand-keyed true e = stand-lined (pinsOf (drop 5 (drop at s))) (ap pinsOf (sym (drop-drop 5 at s))) e
   stand-keyed false e = absurd (let y : _≡_ {A = ℕ} 0 1 = cc in omega arith)
 
-  pub pins-stand : pinsLine W H K (record { line = n; rest = drop at s }) ≡ found (net .pins) q → PinsAt s W H K (at + 5) net
+  pub pins-stand : pinsLine (record { width = W; height = H; layers = K }) (record { line = n; rest = drop at s }) ≡ found (net .pins) q → PinsAt s W H K (at + 5) net
   pins-stand e =
       stand-keyed (startsWith (bytes "pins=") (drop at s))
-      (ap (onKey W H K (suc n)) (sym (behind-is (bytes "pins=") (drop at s))) ∙ sym (pins-law W H K n (drop at s)) ∙ e)
+      (ap (onKey W H K (suc n)) (sym (behind-is (bytes "pins=") (drop at s))) ∙ sym (pins-law (record { width = W; height = H; layers = K }) n (drop at s)) ∙ e)
 
 -- ---- the row
 

@@ -5,6 +5,7 @@ use mathlib.Core.Path.{_≡_, sym, ap, _∙_, subst}
 use Prim.Native.Nat.{ℕ, _+_}
 use native.Mathlib.Omega.{arith}
 use borrow.Author.Tests.{eq-eqb, ne-eqb}
+use Rattle.layout.specs.Shapes.{sizesOf}
 use Rattle.lines.specs.Keyed.{keyBytes, numberLineBy, number-line-is}
 use Rattle.layout.specs.declared.Shape.{Shape}
 use Rattle.lines.specs.Told.{fieldTold, refusedBy}
@@ -39,15 +40,15 @@ module _ (s : List ℕ) (c : Cursor) (i : ℕ) (f : Field) (told : fieldTold s f
 -- ---- the lines behind it
 
 module _ (s : List ℕ) (c : Cursor) (g : Shape) (i : ℕ) (l : Listed) (told : turnTold s l ≡ netLine (i + 1) (placeOf s c)) where
-  pub net-refused : (f : Refusal) → l ≡ Unlisted f → netLines (g .w) (g .h) (g .k) (i + 1) (placeOf s c) ≡ refusedBy f
-  net-refused f e = lines-are (g .w) (g .h) (g .k) (i + 1) (placeOf s c) ∙ ap (λ (x : Result (Unit {0})). next x (λ u. bodyIn (g .w) (g .h) (g .k))) (sym told ∙ ap (turnTold s) e)
+  pub net-refused : (f : Refusal) → l ≡ Unlisted f → netLines (sizesOf g) (i + 1) (placeOf s c) ≡ refusedBy f
+  net-refused f e = lines-are (sizesOf g) (i + 1) (placeOf s c) ∙ ap (λ (x : Result (Unit {0})). next x (λ u. bodyIn (sizesOf g))) (sym told ∙ ap (turnTold s) e)
 
   pub net-goes-on : (d : Cursor) → l ≡ Next d → d .line ≡ c .line + 1 → (first : ℕ) (w w′ table table′ : List ℕ) (r : NetRead)
-      → NetTold s g i first (d .line + 2) w w′ table table′ (bodyIn (g .w) (g .h) (g .k) (placeOf s d)) r
-      → NetTold s g i first (c .line + 3) w w′ table table′ (netLines (g .w) (g .h) (g .k) (i + 1) (placeOf s c)) r
+      → NetTold s g i first (d .line + 2) w w′ table table′ (bodyIn (sizesOf g) (placeOf s d)) r
+      → NetTold s g i first (c .line + 3) w w′ table table′ (netLines (sizesOf g) (i + 1) (placeOf s c)) r
   net-goes-on d e h first w w′ table table′ r t =
       let line : d .line + 2 ≡ c .line + 3 = omega arith in
-      let same : bodyIn (g .w) (g .h) (g .k) (placeOf s d) ≡ netLines (g .w) (g .h) (g .k) (i + 1) (placeOf s c) =
-      sym (lines-are (g .w) (g .h) (g .k) (i + 1) (placeOf s c) ∙ ap (λ (x : Result (Unit {0})). next x (λ u. bodyIn (g .w) (g .h) (g .k))) (sym told ∙ ap (turnTold s) e)) in
-      subst (λ (k : ℕ). NetTold s g i first k w w′ table table′ (netLines (g .w) (g .h) (g .k) (i + 1) (placeOf s c)) r) line
+      let same : bodyIn (sizesOf g) (placeOf s d) ≡ netLines (sizesOf g) (i + 1) (placeOf s c) =
+      sym (lines-are (sizesOf g) (i + 1) (placeOf s c) ∙ ap (λ (x : Result (Unit {0})). next x (λ u. bodyIn (sizesOf g))) (sym told ∙ ap (turnTold s) e)) in
+      subst (λ (k : ℕ). NetTold s g i first k w w′ table table′ (netLines (sizesOf g) (i + 1) (placeOf s c)) r) line
       (subst (λ (x : Result Net). NetTold s g i first (d .line + 2) w w′ table table′ x r) same t)

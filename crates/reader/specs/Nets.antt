@@ -17,7 +17,7 @@ use Rattle.model.specs.Job.{Net, lengths}
 use Rattle.model.specs.Limits.{mostNets}
 use Rattle.model.specs.Lists.{occurs}
 use Rattle.model.specs.Overflow.{demand}
-use Rattle.model.specs.Read.{Place, Result, Reading, refused, found, next, _>>=_, give, netLine, pinsLine, edgesLine, netLines, nets}
+use Rattle.model.specs.Read.{Place, Result, Reading, refused, found, next, _>>=_, give, Sizes, netLine, pinsLine, edgesLine, netLines, nets}
 use Rattle.text.specs.Refusals.{placeOf}
 use Rattle.text.specs.declared.Cursor.{Cursor}
 use Rattle.theory.specs.links.Nets.{NetOk, EachNet}
@@ -35,16 +35,16 @@ turnTold s (Next c) = found tt (placeOf s c)
 turnTold s (Unlisted r) = refusedBy r
 
 -- the `pins` and `edges` lines of a net
-unfoldable pub bodyIn : ℕ → ℕ → ℕ → Reading Net
-bodyIn W H K = do
-  pins ← pinsLine W H K
-  edges ← edgesLine W H pins
+unfoldable pub bodyIn : Sizes → Reading Net
+bodyIn z = do
+  pins ← pinsLine z
+  edges ← edgesLine z pins
   give (record { pins = pins; edges = edges })
 
 -- they stand behind its `net` line
-pub lines-are : (W H K i : ℕ) (p : Place) → netLines W H K i p ≡ next (netLine i p) (λ u. bodyIn W H K)
+pub lines-are : (z : Sizes) (i : ℕ) (p : Place) → netLines z i p ≡ next (netLine i p) (λ u. bodyIn z)
 unfolding netLines bodyIn
-lines-are W H K i p = refl
+lines-are z i p = refl
 
 -- ---- one net
 

@@ -11,6 +11,7 @@ use Rattle.head.specs.Capacities.{capacitiesOf}
 use Rattle.head.specs.Reads.{restIn}
 use Rattle.head.specs.Told.{headJob}
 use Rattle.head.specs.declared.Head.{Head}
+use Rattle.layout.specs.Shapes.{sizesOf}
 use Rattle.lines.specs.Told.{refusedBy}
 use Rattle.model.specs.Job.{Net, Job, netCount, entryCount}
 use Rattle.model.specs.Read.{Place, Result, Reading, refused, found, next, _>>_, give, need, nets, Lent, printNeed, printFits, end, read}
@@ -54,10 +55,10 @@ jobOf h w ns = record {
 -- the rest of the text is its nets and then its end
 pub rest-splits : (lent : Lent) (h : Head) (w : List ℕ) (p : Place) →
     restIn lent (headJob h w) p
-    ≡ next (nets (h .shape .w) (h .shape .h) (h .shape .k) 1 (h .nets) p)
+    ≡ next (nets (sizesOf (h .shape)) 1 (h .nets) p)
     (λ ns q. next (endIn (h .nets) (entryCount (jobOf h w ns)) (lent .answer) (lent .print) q) (λ u. give (jobOf h w ns)))
 unfolding restIn endIn
-rest-splits lent h w p = go (nets (h .shape .w) (h .shape .h) (h .shape .k) 1 (h .nets) p)
+rest-splits lent h w p = go (nets (sizesOf (h .shape)) 1 (h .nets) p)
   where
     ended : (e : Result (Unit {0})) (k : Reading (Unit {0})) (j : Job) → next e (λ u. _>>_ k (give j)) ≡ next (next e (λ u. k)) (λ u. give j)
     ended (refused n l) k j = refl

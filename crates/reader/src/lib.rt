@@ -18,7 +18,7 @@ ghost use lib.ListN.{length, getD};
 ghost use Rattle.edges.specs.Reading.{tilesOf};
 ghost use Rattle.layout.specs.Areas.{tilesAt, chosenAt};
 ghost use Rattle.layout.specs.Parts.{Outside};
-ghost use Rattle.layout.specs.Shapes.{Shaped};
+ghost use Rattle.layout.specs.Shapes.{sizesOf, Shaped};
 ghost use Rattle.layout.specs.Table.{tableSize};
 ghost use Rattle.lines.specs.Told.{listIn, mapped};
 ghost use Rattle.marks.specs.Marks.{Older};
@@ -75,7 +75,7 @@ fn net_pins(s: &[u8], c: Cursor, w: &mut [u32], g: Shape, stamp: u32) -> PinsRea
     requires { ⌜ Shaped g ⌝ }
     requires { ⌜ (chosenAt g ≤ length (now w)) × (stamp ≤ 8192) × (length (now s) ≤ 1048576) × (c .at ≤ length (now s)) × (c .line < 1048576) ⌝ }
     requires { ⌜ Older stamp (tilesOf g (now w)) ⌝ }
-    ensures { λ r. ⌜ pinsTold (now (s .entry)) (tilesOf g (now (w .exit))) r ≡ mapped (pinsMarked stamp (tilesOf g (now (w .entry)))) (pinsLine (g .w) (g .h) (g .k) (placeOf (now (s .entry)) c)) ⌝ }
+    ensures { λ r. ⌜ pinsTold (now (s .entry)) (tilesOf g (now (w .exit))) r ≡ mapped (pinsMarked stamp (tilesOf g (now (w .entry)))) (pinsLine (sizesOf g) (placeOf (now (s .entry)) c)) ⌝ }
     ensures { λ r. ⌜ pinsIn (length (now (s .entry))) (c .at + 5) (c .line + 1) r ⌝ }
     ensures { λ _. ⌜ Outside (tilesAt g) (g .t) (now (w .entry)) (now (w .exit)) ⌝ }
 {
@@ -110,7 +110,7 @@ fn net_body(s: &[u8], c: Cursor, w: &mut [u32], g: Shape, table: &mut [u32], row
     requires { ⌜ (c .at ≤ length (now s)) × (c .line < 100000) × (length (now s) ≤ 1048576) ⌝ }
     requires { ⌜ (tableSize ≤ length (now table)) × (row .first ≤ 16777216) ⌝ }
     requires { ⌜ NetReady g (row .i) (now w) ⌝ }
-    ensures { λ r. ⌜ NetTold (now (s .entry)) g (row .i) (row .first) (c .line + 2) (now (w .entry)) (now (w .exit)) (now (table .entry)) (now (table .exit)) (bodyIn (g .w) (g .h) (g .k) (placeOf (now (s .entry)) c)) r ⌝ }
+    ensures { λ r. ⌜ NetTold (now (s .entry)) g (row .i) (row .first) (c .line + 2) (now (w .entry)) (now (w .exit)) (now (table .entry)) (now (table .exit)) (bodyIn (sizesOf g) (placeOf (now (s .entry)) c)) r ⌝ }
     ensures { λ _. ⌜ (length (now (w .exit)) ≡ length (now (w .entry))) × (length (now (table .exit)) ≡ length (now (table .entry))) ⌝ }
 {
     let stamp = (row.i + 1) as u32;
@@ -132,7 +132,7 @@ fn read_net(s: &[u8], c: Cursor, w: &mut [u32], g: Shape, table: &mut [u32], row
     requires { ⌜ (c .at ≤ length (now s)) × (c .line < 90000) × (length (now s) ≤ 1048576) ⌝ }
     requires { ⌜ (tableSize ≤ length (now table)) × (row .first ≤ 16777216) ⌝ }
     requires { ⌜ NetReady g (row .i) (now w) ⌝ }
-    ensures { λ r. ⌜ NetTold (now (s .entry)) g (row .i) (row .first) (c .line + 3) (now (w .entry)) (now (w .exit)) (now (table .entry)) (now (table .exit)) (netLines (g .w) (g .h) (g .k) (row .i + 1) (placeOf (now (s .entry)) c)) r ⌝ }
+    ensures { λ r. ⌜ NetTold (now (s .entry)) g (row .i) (row .first) (c .line + 3) (now (w .entry)) (now (w .exit)) (now (table .entry)) (now (table .exit)) (netLines (sizesOf g) (row .i + 1) (placeOf (now (s .entry)) c)) r ⌝ }
     ensures { λ _. ⌜ (length (now (w .exit)) ≡ length (now (w .entry))) × (length (now (table .exit)) ≡ length (now (table .entry))) ⌝ }
 {
     match net_line(s, c, row.i + 1) {
@@ -153,7 +153,7 @@ fn read_nets(
     requires { ⌜ Shaped g ⌝ }
     requires { ⌜ (from .at ≤ length (now s)) × (from .line < 1000) × (length (now s) ≤ 1048576) × (n ≤ 4096) ⌝ }
     requires { ⌜ NetsReady g (now w) (now table) ⌝ }
-    ensures { λ r. ⌜ NetsTold (now (s .entry)) g n (from .line + 3 * n) (now (w .entry)) (now (w .exit)) (now (table .exit)) (nets (g .w) (g .h) (g .k) 1 n (placeOf (now (s .entry)) from)) r ⌝ }
+    ensures { λ r. ⌜ NetsTold (now (s .entry)) g n (from .line + 3 * n) (now (w .entry)) (now (w .exit)) (now (table .exit)) (nets (sizesOf g) 1 n (placeOf (now (s .entry)) from)) r ⌝ }
     ensures { λ _. ⌜ (length (now (w .exit)) ≡ length (now (w .entry))) × (length (now (table .exit)) ≡ length (now (table .entry))) ⌝ }
 {
     let mut c = from;

@@ -12,7 +12,7 @@ use borrow.Author.Tests.{eqb-true}
 use Rattle.model.specs.Lists.{all, twice}
 use Rattle.model.specs.Text.{bytes, Cut, cutStep, cutLine, behind, split, number}
 use Rattle.model.specs.Job.{Pin}
-use Rattle.model.specs.Read.{Place, Result, Reading, refused, found, next, _>>=_, _>>_, give, form, need, valueIn, line, Triple, threeParts, pinEntries, pinInside, pinAt, samePin, pinsLine}
+use Rattle.model.specs.Read.{Place, Result, Reading, refused, found, next, _>>=_, _>>_, give, form, need, valueIn, line, Sizes, Triple, threeParts, pinEntries, pinInside, pinAt, samePin, pinsLine}
 use Rattle.scan.specs.Lines.{Lined, lineOf, lineBy, firstBy, withRest, first-all}
 
 -- the key holds no byte 10
@@ -89,13 +89,13 @@ value-law W H K n u = cut (cutLine u)
     cut (some c) = read (pinEntries (c .0)) (c .1) ∙ ap (λ (e : Option (List Triple)). judged W H K n (withRest e (c .1))) (sym (first-all (threeParts number) (c .0)))
 
 -- the definitions' pins line, as it is read from left to right
-pub pins-law : (W H K n : ℕ) (t : List ℕ) → pinsLine W H K (record { line = n; rest = t }) ≡ onKey W H K (suc n) (behind (bytes "pins=") t)
+pub pins-law : (z : Sizes) (n : ℕ) (t : List ℕ) → pinsLine z (record { line = n; rest = t }) ≡ onKey (z .width) (z .height) (z .layers) (suc n) (behind (bytes "pins=") t)
 unfolding pinsLine line
-pins-law W H K n t = ap (λ (r : Result (List ℕ)). next r (pinsIn W H K)) (key-law (suc n) (bytes "pins=") t (refl, (refl, (refl, (refl, (refl, tt)))))) ∙ go (behind (bytes "pins=") t)
+pins-law z n t = ap (λ (r : Result (List ℕ)). next r (pinsIn (z .width) (z .height) (z .layers))) (key-law (suc n) (bytes "pins=") t (refl, (refl, (refl, (refl, (refl, tt)))))) ∙ go (behind (bytes "pins=") t)
   where
-    go : (o : Option (List ℕ)) → next (afterKey (suc n) o) (pinsIn W H K) ≡ onKey W H K (suc n) o
+    go : (o : Option (List ℕ)) → next (afterKey (suc n) o) (pinsIn (z .width) (z .height) (z .layers)) ≡ onKey (z .width) (z .height) (z .layers) (suc n) o
     go none = refl
-    go (some u) = value-law W H K (suc n) u
+    go (some u) = value-law (z .width) (z .height) (z .layers) (suc n) u
 
 -- ---- the key in the text
 

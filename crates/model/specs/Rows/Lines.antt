@@ -186,7 +186,7 @@ emptyListRows =
 
 -- the `pins` line of the sample's net 1
 abbrev pins : String → ℕ × ℕ
-pins = on 12 (pinsLine 3 2 2)
+pins = on 12 (pinsLine (record { width = 3; height = 2; layers = 2 }))
 
 abbrev pub pinRows : List (Row (ℕ × ℕ))
 pinRows =
@@ -215,7 +215,7 @@ pinRows =
 
 -- the `edges` line of a net with pins in the tiles (0, 0) and (0, 1) of the sample's grid
 abbrev edges : String → ℕ × ℕ
-edges = on 13 (edgesLine 3 2 (record { tile = 0; layer = 1 } ∷ record { tile = 3; layer = 1 } ∷ []))
+edges = on 13 (edgesLine (record { width = 3; height = 2; layers = 2 }) (record { tile = 0; layer = 1 } ∷ record { tile = 3; layer = 1 } ∷ []))
 
 abbrev pub edgeRows : List (Row (ℕ × ℕ))
 edgeRows =

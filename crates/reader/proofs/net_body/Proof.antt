@@ -12,6 +12,7 @@ use Rattle.edges.specs.Pins.{PinsFound}
 use Rattle.edges.specs.Reading.{tilesOf, Reading}
 use Rattle.edges.specs.declared.Edges.{Edges}
 use Rattle.edges.specs.declared.EdgesRead.{EdgesRead}
+use Rattle.layout.specs.Shapes.{sizesOf}
 use Rattle.layout.specs.declared.Shape.{Shape}
 use Rattle.lines.specs.Told.{After, mapped}
 use Rattle.model.specs.Read.{pinsLine}
@@ -67,7 +68,7 @@ module _ (c : tie.After-p) where
   abbrev d : Cursor
   d = c .p .given .0 .1 .0
 
-  told : pinsTold s (tilesOf g w₁) (PinsLine p d) ≡ mapped (pinsMarked (i + 1) (tilesOf g w₀)) (pinsLine (g .w) (g .h) (g .k) (placeOf s at))
+  told : pinsTold s (tilesOf g w₁) (PinsLine p d) ≡ mapped (pinsMarked (i + 1) (tilesOf g w₀)) (pinsLine (sizesOf g) (placeOf s at))
   told = ap (pinsTold s (tilesOf g w₁)) (sym (c .p .given .1)) ∙ y .net-pins .ensures .0
 
   stands : (p .from ≡ at .at + 5) × After (length s) (at .line + 1) d

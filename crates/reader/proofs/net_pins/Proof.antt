@@ -6,6 +6,7 @@ use Prim.Native.Nat.{ℕ, _+_, _-_, _≤_}
 use native.Mathlib.Omega.{arith}
 use lib.ListN.{length, take, drop}
 use borrow.Author.Needs.{needs}
+use Rattle.layout.specs.Shapes.{sizesOf}
 use Rattle.layout.specs.Areas.{tilesAt}
 use Rattle.layout.specs.Lent.{lent-part, put-part, put-outside}
 use Rattle.layout.specs.Parts.{part-long}
@@ -40,7 +41,7 @@ returns c =
     let back = put-part (tilesAt (x .g)) (x .g .t) (x .w .now) (from .result) (to .result) (from .ensures .0) (to .ensures .0) (p .last .1 .1 .0) room long in (
       ap (λ (l : List ℕ). pinsTold (x .s .now) l (p .result)) back
           ∙ p .ensures .0
-          ∙ ap (λ (l : List ℕ). mapped (pinsMarked (x .stamp) l) (pinsLine (x .g .w) (x .g .h) (x .g .k) (placeOf (x .s .now) (x .c)))) lent,
+          ∙ ap (λ (l : List ℕ). mapped (pinsMarked (x .stamp) l) (pinsLine (sizesOf (x .g)) (placeOf (x .s .now) (x .c)))) lent,
       (
         p .ensures .1 .0,
         put-outside (tilesAt (x .g)) (x .g .t) (x .w .now) (from .result) (to .result) (from .ensures .0) (to .ensures .0) (p .last .1 .1 .0) room long,

@@ -5,6 +5,7 @@ use Prim.Native.Nat.{_+_, _-_}
 use native.Mathlib.Omega.{arith}
 use lib.ListN.{length}
 use borrow.Author.Needs.{needs}
+use Rattle.layout.specs.Shapes.{sizesOf}
 use Rattle.model.specs.Read.{netLines, nets}
 use Rattle.text.specs.Refusals.{placeOf}
 use Rattle.reader.specs.Nets.{NetTold}
@@ -15,7 +16,7 @@ use Rattle.reader.proofs.read_nets.Tie as tie
 
 abbrev Inv-loop : tie.InvT-loop
 Inv-loop s w₀ g table₀ n c₀ entries₀ i₀ w table c entries i =
-    Midway s g n (c₀ .line) w₀ w table (nets (g .w) (g .h) (g .k) 1 n (placeOf s c₀)) c entries i × (length table ≡ length table₀)
+    Midway s g n (c₀ .line) w₀ w table (nets (sizesOf g) 1 n (placeOf s c₀)) c entries i × (length table ≡ length table₀)
 
 abbrev μ-loop : tie.MeasureT-loop
 μ-loop s w₀ g table₀ n c₀ entries₀ i₀ w table c entries i = n - i
@@ -47,7 +48,7 @@ returns c =
     let t = c .before .before .before .before .before .before .before .before .before .before .loop-test .taken in
     let y = c .before .before .before .before .before .before .before .read-net in
     let f = c .before .r .given in
-    let told = subst (λ (v : NetRead). NetTold (x .s .now) (x .g) (l .i) (l .entries) (l .c .line + 3) (l .w) (y .last .1 .1 .0) (l .table) (y .last .1 .1 .1 .1 .0) (netLines (x .g .w) (x .g .h) (x .g .k) (l .i + 1) (placeOf (x .s .now) (l .c))) v) (f .1) (y .ensures .0) in (
+    let told = subst (λ (v : NetRead). NetTold (x .s .now) (x .g) (l .i) (l .entries) (l .c .line + 3) (l .w) (y .last .1 .1 .0) (l .table) (y .last .1 .1 .1 .1 .0) (netLines (sizesOf (x .g)) (l .i + 1) (placeOf (x .s .now) (l .c))) v) (f .1) (y .ensures .0) in (
       midway-stop (x .s .now) (x .g) (r .0) (x .n) (x .from .line) (x .w .now) _ (l .w) (l .table) (l .c) (l .entries) (l .i) (l .inv .0) t (f .0 .0) told,
       (y .ensures .1 .0 ∙ l .inv .0 .so-read .long, y .ensures .1 .1 ∙ l .inv .1),
     )
@@ -61,7 +62,7 @@ add-entries c =
     let t = c .before .before .before .before .before .before .before .before .before .before .loop-test .taken in
     let y = c .before .before .before .before .before .before .before .read-net in
     let f = c .before .d .given in
-    let told = subst (λ (v : NetRead). NetTold (x .s .now) (x .g) (l .i) (l .entries) (l .c .line + 3) (l .w) (y .last .1 .1 .0) (l .table) (y .last .1 .1 .1 .1 .0) (netLines (x .g .w) (x .g .h) (x .g .k) (l .i + 1) (placeOf (x .s .now) (l .c))) v) (f .1) (y .ensures .0) in
+    let told = subst (λ (v : NetRead). NetTold (x .s .now) (x .g) (l .i) (l .entries) (l .c .line + 3) (l .w) (y .last .1 .1 .0) (l .table) (y .last .1 .1 .1 .1 .0) (netLines (sizesOf (x .g)) (l .i + 1) (placeOf (x .s .now) (l .c))) v) (f .1) (y .ensures .0) in
     omega (
       arith,
       t,
@@ -78,7 +79,7 @@ loop-again c =
     let t = c .before .before .before .before .before .before .before .before .before .before .loop-test .taken in
     let y = c .before .before .before .before .before .before .before .read-net in
     let f = c .before .d .given in
-    let told = subst (λ (v : NetRead). NetTold (x .s .now) (x .g) (l .i) (l .entries) (l .c .line + 3) (l .w) (y .last .1 .1 .0) (l .table) (y .last .1 .1 .1 .1 .0) (netLines (x .g .w) (x .g .h) (x .g .k) (l .i + 1) (placeOf (x .s .now) (l .c))) v) (f .1) (y .ensures .0) in (
+    let told = subst (λ (v : NetRead). NetTold (x .s .now) (x .g) (l .i) (l .entries) (l .c .line + 3) (l .w) (y .last .1 .1 .0) (l .table) (y .last .1 .1 .1 .1 .0) (netLines (sizesOf (x .g)) (l .i + 1) (placeOf (x .s .now) (l .c))) v) (f .1) (y .ensures .0) in (
       midway-next (x .s .now) (x .g) (r .0) (x .n) (x .from .line) (x .w .now) _ (l .w) (l .table) (l .c) (l .entries) (l .i) (l .inv .0) t (l .c .line + 3) (y .last .1 .1 .0) (y .last .1 .1 .1 .1 .0) (f .0 .0) (f .0 .1 .0) refl told,
       y .ensures .1 .1 ∙ l .inv .1,
     )

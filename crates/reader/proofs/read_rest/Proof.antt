@@ -4,6 +4,7 @@ use mathlib.Core.Path.{refl, subst}
 use Prim.Native.Nat.{_+_, _*_}
 use native.Mathlib.Omega.{arith}
 use borrow.Author.Needs.{needs}
+use Rattle.layout.specs.Shapes.{sizesOf}
 use Rattle.model.specs.Read.{nets}
 use Rattle.text.specs.Refusals.{placeOf}
 use Rattle.reader.specs.Nets.{NetsTold}
@@ -33,7 +34,7 @@ returns c =
     let x = z .args in
     let y = c .before .before .before .before .before .before .before .read-nets in
     let f = c .before .r .given in
-    let told = subst (λ (v : NetsRead). NetsTold (x .s .now) (x .h .shape) (x .h .nets) (x .c .line + 3 * x .h .nets) (x .w .now) (y .last .1 .1 .0) (y .last .1 .1 .1 .1 .0) (nets (x .h .shape .w) (x .h .shape .h) (x .h .shape .k) 1 (x .h .nets) (placeOf (x .s .now) (x .c))) v) (f .1) (y .ensures .0) in
+    let told = subst (λ (v : NetsRead). NetsTold (x .s .now) (x .h .shape) (x .h .nets) (x .c .line + 3 * x .h .nets) (x .w .now) (y .last .1 .1 .0) (y .last .1 .1 .1 .1 .0) (nets (sizesOf (x .h .shape)) 1 (x .h .nets) (placeOf (x .s .now) (x .c))) v) (f .1) (y .ensures .0) in
     (rest-no-nets (x .s .now) (x .h) (x .answer) (x .print) (placeOf (x .s .now) (x .c)) (x .w .now) (f .0 .0) told, y .ensures .1)
 
 returns-2 : tie.Need-returns-2

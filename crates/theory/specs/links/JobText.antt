@@ -12,7 +12,7 @@ use lib.ListN.{length}
 use Rattle.model.specs.Grid.{eastCount, northCount}
 use Rattle.model.specs.Job.{Net, Job, entryCount}
 use Rattle.model.specs.Limits.{leastSide, mostSide, leastLayers, mostLayers, mostWeight, mostNets, mostText}
-use Rattle.model.specs.Read.{Place, Result, Reading, next, need, capacityLine, capacityLines, netLine, pinsLine, edgesLine, netLines, nets, Lent, workingNeed, printNeed, printFits, jobIn, read}
+use Rattle.model.specs.Read.{Place, Result, Reading, next, need, capacityLine, capacityLines, Sizes, netLine, pinsLine, edgesLine, netLines, nets, Lent, workingNeed, printNeed, printFits, jobIn, read}
 use Rattle.theory.specs.links.Chain.{Rows, no-more, row, Chain, done, reads, tests, ends, run}
 use Rattle.theory.specs.links.Words.{leb-fails, and-fails}
 use Rattle.theory.specs.links.Kinds.{rangedKind, capacityKind, netKind, pinsKind, edgesKind, next-next, ranged-is, capacity-is, net-is, pins-is, edges-is}
@@ -47,13 +47,13 @@ module _ {A : Type 0} where
       layersChain W H K (λ above. k ((east ++ north) ∷ above))))
 
   -- "for each net `net`, `pins`, `edges`": m nets, from number i on
-  abbrev pub netsChain : ℕ → ℕ → ℕ → ℕ → ℕ → (List Net → Chain A) → Chain A
-  netsChain W H K i zero k = k []
-  netsChain W H K i (suc m) k =
+  abbrev pub netsChain : Sizes → ℕ → ℕ → (List Net → Chain A) → Chain A
+  netsChain z i zero k = k []
+  netsChain z i (suc m) k =
       reads (netKind i) (λ u.
-      reads (pinsKind W H K) (λ pins.
-      reads (edgesKind W H pins) (λ edges.
-      netsChain W H K (suc i) m (λ others. k (record { pins = pins; edges = edges } ∷ others)))))
+      reads (pinsKind z) (λ pins.
+      reads (edgesKind z pins) (λ edges.
+      netsChain z (suc i) m (λ others. k (record { pins = pins; edges = edges } ∷ others)))))
 
 -- "answer list or print buffer too short", for N nets and A entries
 abbrev pub RoomShort : Lent → ℕ → ℕ → Type 0
@@ -105,7 +105,7 @@ jobChain lent =
     layersChain W H K (λ cs.
     reads (rangedKind "nets" 0 mostNets) (λ N.
     tests (orderRow lent N)
-    (netsChain W H K 1 N (λ ns.
+    (netsChain (record { width = W; height = H; layers = K }) 1 N (λ ns.
     endChain lent N (record { width = W; height = H; layers = K; alpha = a; beta = b; gamma = g; capacities = cs; nets = ns }))))))))))))
 
 -- "1, 0: text above 1,048,576 bytes"; "Number 1 comes first"
@@ -130,18 +130,19 @@ module _ {A : Type 0} (W H : ℕ) where
       ∙ same-next (capacity-is "north" (northCount W H) q) (λ north r.
       next-next (capacityLines W H K r) _ _ ∙ layers-run K (λ above. k ((east ++ north) ∷ above)) r))
 
-  nets-run : (K i m : ℕ) (k : List Net → Chain A) (p : Place) → next (nets W H K i m p) (λ ns. run (k ns)) ≡ run (netsChain W H K i m k) p
+module _ {A : Type 0} (z : Sizes) where
+  nets-run : (i m : ℕ) (k : List Net → Chain A) (p : Place) → next (nets z i m p) (λ ns. run (k ns)) ≡ run (netsChain z i m k) p
   unfolding netLines
-  nets-run K i zero k p = refl
-  nets-run K i (suc m) k p =
-      next-next (netLines W H K i p) _ _
+  nets-run i zero k p = refl
+  nets-run i (suc m) k p =
+      next-next (netLines z i p) _ _
       ∙ next-next (netLine i p) _ _
       ∙ same-next (net-is i p) (λ u q.
-      next-next (pinsLine W H K q) _ _
-      ∙ same-next (pins-is W H K q) (λ pins r.
-      next-next (edgesLine W H pins r) _ _
-      ∙ same-next (edges-is W H pins r) (λ edges s.
-      next-next (nets W H K (suc i) m s) _ _ ∙ nets-run K (suc i) m (λ others. k (record { pins = pins; edges = edges } ∷ others)) s)))
+      next-next (pinsLine z q) _ _
+      ∙ same-next (pins-is z q) (λ pins r.
+      next-next (edgesLine z pins r) _ _
+      ∙ same-next (edges-is z pins r) (λ edges s.
+      next-next (nets z (suc i) m s) _ _ ∙ nets-run (suc i) m (λ others. k (record { pins = pins; edges = edges } ∷ others)) s)))
 
 job-run : (lent : Lent) (p : Place) → jobIn lent p ≡ run (jobChain lent) p
 unfolding jobIn
@@ -155,7 +156,7 @@ job-run lent p =
     same-next (ranged-is "gamma" 0 mostWeight p6) (λ g p7.
     behind-same (capacityLines W H K p7) (λ cs p8.
     same-next (ranged-is "nets" 0 mostNets p8) (λ N p9.
-    behind-same (need 10 (leb N (lent .order)) p9) (λ u10 p10. nets-run W H K 1 N _ p10)))
+    behind-same (need 10 (leb N (lent .order)) p9) (λ u10 p10. nets-run (record { width = W; height = H; layers = K }) 1 N _ p10)))
     ∙ layers-run W H K _ p7)))))))
 
 pub read-is : (lent : Lent) (text : List ℕ) → read lent text ≡ run (textChain lent text) (start text)

@@ -14,7 +14,7 @@ use Rattle.model.specs.Limits.{mostCapacity}
 use Rattle.model.specs.Lists.{all, twice}
 use Rattle.model.specs.Text.{number, numbers}
 use Rattle.model.specs.Tree.{ring, joined}
-use Rattle.model.specs.Read.{Place, Result, refused, found, Reading, next, form, need, give, line, numberLine, ranged, capacityLine, Triple, pinEntries, edgeEntries, pinInside, edgeInside, pinAt, edgeAt, samePin, netLine, pinsLine, edgesLine}
+use Rattle.model.specs.Read.{Place, Result, refused, found, Reading, next, form, need, give, line, numberLine, ranged, capacityLine, Sizes, Triple, pinEntries, edgeEntries, pinInside, edgeInside, pinAt, edgeAt, samePin, netLine, pinsLine, edgesLine}
 use Rattle.theory.specs.links.Chain.{no-more, row, Kind, lineOf}
 use Rattle.theory.specs.links.Words.{leb-fails, eqb-fails, range-fails, Some, all-fails, PinInside, pin-fails, EdgeInside, edge-fails, PinTwice, pins-twice, EdgeTwice, edges-twice, HasRing, ring-fails, NotReached, joined-fails}
 
@@ -27,19 +27,19 @@ OutOfRange low high n = (low ≤ n) × (n ≤ high) → ⊥
 abbrev pub CapacitiesOut : List ℕ → Type 0
 CapacitiesOut = Some (λ c. mostCapacity < c)
 
-abbrev pub PinsOut : ℕ → ℕ → ℕ → List Triple → Type 0
-PinsOut W H K = Some (λ p. PinInside W H K p → ⊥)
+abbrev pub PinsOut : Sizes → List Triple → Type 0
+PinsOut z = Some (λ p. PinInside (z .width) (z .height) (z .layers) p → ⊥)
 
 -- "an edge leaving the grid"
-abbrev pub EdgesOut : ℕ → ℕ → List Triple → Type 0
-EdgesOut W H = Some (λ e. EdgeInside W H e → ⊥)
+abbrev pub EdgesOut : Sizes → List Triple → Type 0
+EdgesOut z = Some (λ e. EdgeInside (z .width) (z .height) e → ⊥)
 
 -- the pins and the edges that entries name
-abbrev pub pinsOf : ℕ → List Triple → List Pin
-pinsOf W = map (pinAt W)
+abbrev pub pinsOf : Sizes → List Triple → List Pin
+pinsOf z = map (pinAt (z .width))
 
-abbrev pub edgesOf : ℕ → ℕ → List Triple → List ℕ
-edgesOf W H = map (edgeAt W H)
+abbrev pub edgesOf : Sizes → List Triple → List ℕ
+edgesOf z = map (edgeAt (z .width) (z .height))
 
 -- a line with one number from low to high: 2, 3
 abbrev pub rangedKind : String → ℕ → ℕ → Kind ℕ ℕ
@@ -76,35 +76,40 @@ netKind i = record {
 }
 
 -- the line `pins`: 2, 3, and "5, the line: same tile and layer twice on `pins`"
-abbrev pub pinsKind : ℕ → ℕ → ℕ → Kind (List Triple) (List Pin)
-pinsKind W H K = record {
+abbrev pub pinsKind : Sizes → Kind (List Triple) (List Pin)
+pinsKind z = record {
   key = "pins";
   number = 2;
   value = pinEntries;
   rows = λ ps.
-      row 3 (all (pinInside W H K) ps) (PinsOut W H K ps)
+      let W = z .width in
+      let H = z .height in
+      let K = z .layers in
+      row 3 (all (pinInside W H K) ps) (PinsOut z ps)
       (λ h. all-fails (pinInside W H K) (λ p. PinInside W H K p → ⊥) (pin-fails W H K) ps)
-      (row 5 (not (twice samePin (pinsOf W ps))) (PinTwice (pinsOf W ps)) (λ h. pins-twice (pinsOf W ps))
+      (row 5 (not (twice samePin (pinsOf z ps))) (PinTwice (pinsOf z ps)) (λ h. pins-twice (pinsOf z ps))
       no-more);
-  result = pinsOf W;
+  result = pinsOf z;
 }
 
 -- the line `edges`: 2, 3, "6, the line: same edge twice on `edges`", "7, the `edges` line: the net's edges contain a ring", "8, the `edges` line: no ring, but
 -- a pin or edge not reached from the first pin's tile along the edges"
-abbrev pub edgesKind : ℕ → ℕ → List Pin → Kind (List Triple) (List ℕ)
-edgesKind W H pins = record {
+abbrev pub edgesKind : Sizes → List Pin → Kind (List Triple) (List ℕ)
+edgesKind z pins = record {
   key = "edges";
   number = 2;
   value = edgeEntries;
   rows = λ es.
-      row 3 (all (edgeInside W H) es) (EdgesOut W H es)
+      let W = z .width in
+      let H = z .height in
+      row 3 (all (edgeInside W H) es) (EdgesOut z es)
       (λ h. all-fails (edgeInside W H) (λ e. EdgeInside W H e → ⊥) (edge-fails W H) es)
-      (row 6 (not (twice eqb (edgesOf W H es))) (EdgeTwice (edgesOf W H es)) (λ h. edges-twice (edgesOf W H es))
-      (row 7 (not (ring W H (edgesOf W H es))) (HasRing W H (edgesOf W H es))
-      (λ (h : (Unit {0} × (EdgesOut W H es → ⊥)) × (EdgeTwice (edgesOf W H es) → ⊥)). ring-fails W H (edgesOf W H es) (h .1))
-      (row 8 (joined W H pins (edgesOf W H es)) (NotReached W H pins (edgesOf W H es)) (λ h. joined-fails W H pins (edgesOf W H es))
+      (row 6 (not (twice eqb (edgesOf z es))) (EdgeTwice (edgesOf z es)) (λ h. edges-twice (edgesOf z es))
+      (row 7 (not (ring W H (edgesOf z es))) (HasRing W H (edgesOf z es))
+      (λ (h : (Unit {0} × (EdgesOut z es → ⊥)) × (EdgeTwice (edgesOf z es) → ⊥)). ring-fails W H (edgesOf z es) (h .1))
+      (row 8 (joined W H pins (edgesOf z es)) (NotReached W H pins (edgesOf z es)) (λ h. joined-fails W H pins (edgesOf z es))
       no-more)));
-  result = edgesOf W H;
+  result = edgesOf z;
 }
 
 -- ---- the definitions read so
@@ -131,11 +136,11 @@ net-is i p =
     (λ j. next (numberLine "net" p) (λ n q. need-last 4 (eqb n i) q j))
     ∙ next-next (line 2 "net" p) (λ v. form 2 (number v)) (λ n. λ q. next (need 4 (eqb n i) q) (λ u. give tt))
 
-module _ (W H : ℕ) where
-  pub pins-is : (K : ℕ) (p : Place) → pinsLine W H K p ≡ lineOf (pinsKind W H K) p
+module _ (z : Sizes) where
+  pub pins-is : (p : Place) → pinsLine z p ≡ lineOf (pinsKind z) p
   unfolding pinsLine lineOf
-  pins-is K p = refl
+  pins-is p = refl
 
-  pub edges-is : (pins : List Pin) (p : Place) → edgesLine W H pins p ≡ lineOf (edgesKind W H pins) p
+  pub edges-is : (pins : List Pin) (p : Place) → edgesLine z pins p ≡ lineOf (edgesKind z pins) p
   unfolding edgesLine lineOf
   edges-is pins p = refl

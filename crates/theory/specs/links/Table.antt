@@ -12,7 +12,7 @@ use lib.ListN.{length}
 use Rattle.model.specs.Grid.{eastCount, northCount}
 use Rattle.model.specs.Job.{Pin, Net, Job, entryCount}
 use Rattle.model.specs.Limits.{leastSide, mostSide, leastLayers, mostLayers, mostWeight, mostNets, mostText}
-use Rattle.model.specs.Read.{Place, Result, refused, found, Triple, Lent, workingNeed, read}
+use Rattle.model.specs.Read.{Place, Result, refused, found, Sizes, Triple, Lent, workingNeed, read}
 use Rattle.theory.specs.congestion.Sums.{same-cases}
 use Rattle.theory.specs.links.Chain.{First, Kind, Stands, WrongForm, WrongLine, form-wrong, row-wrong, Chain, done, reads, tests, ends, refused-found, same-refusal, AtFault, Comes, begun, comes-refused, Decided, then-line, then-tests, then-end, decided-refused, decided-found}
 use Rattle.theory.specs.links.Words.{PinTwice, EdgeTwice, HasRing, NotReached}
@@ -97,8 +97,8 @@ module _ (lent : Lent) (text : List ℕ) where
   pub data RangeAt (l : ℕ) : Type 1 where
     number-out : (key : String) (low high m : ℕ) → LineAt (rangedKind key low high) m l → OutOfRange low high m → RangeAt l
     capacity-out : (key : String) (size : ℕ) (cs : List ℕ) → LineAt (capacityKind key size) cs l → length cs ≡ size → CapacitiesOut cs → RangeAt l
-    pin-out : (W H K : ℕ) (ps : List Triple) → LineAt (pinsKind W H K) ps l → PinsOut W H K ps → RangeAt l
-    edge-out : (W H : ℕ) (pins : List Pin) (es : List Triple) → LineAt (edgesKind W H pins) es l → EdgesOut W H es → RangeAt l
+    pin-out : (z : Sizes) (ps : List Triple) → LineAt (pinsKind z) ps l → PinsOut z ps → RangeAt l
+    edge-out : (z : Sizes) (pins : List Pin) (es : List Triple) → LineAt (edgesKind z pins) es l → EdgesOut z es → RangeAt l
 
   -- "4, the line: net number out of turn": the `net` line of net i is the first of its three
   pub data TurnAt (l : ℕ) : Type 1 where
@@ -106,23 +106,23 @@ module _ (lent : Lent) (text : List ℕ) where
 
   -- "5, the line: same tile and layer twice on `pins`": that of net i is the second of its three
   pub data PinTwiceAt (l : ℕ) : Type 1 where
-    pin-twice : (W H K i : ℕ) (ps : List Triple) → OfNet K i → LineAt (pinsKind W H K) ps (linesTo K i - 1) → (PinsOut W H K ps → ⊥)
-        → PinTwice (pinsOf W ps) → l ≡ linesTo K i - 1 → PinTwiceAt l
+    pin-twice : (z : Sizes) (i : ℕ) (ps : List Triple) → OfNet (z .layers) i → LineAt (pinsKind z) ps (linesTo (z .layers) i - 1) → (PinsOut z ps → ⊥)
+        → PinTwice (pinsOf z ps) → l ≡ linesTo (z .layers) i - 1 → PinTwiceAt l
 
   -- "6, the line: same edge twice on `edges`": that of net i is the third of its three
   pub data EdgeTwiceAt (l : ℕ) : Type 1 where
-    edge-twice : (W H K i : ℕ) (pins : List Pin) (es : List Triple) → OfNet K i → LineAt (edgesKind W H pins) es (linesTo K i) → (EdgesOut W H es → ⊥)
-        → EdgeTwice (edgesOf W H es) → l ≡ linesTo K i → EdgeTwiceAt l
+    edge-twice : (z : Sizes) (i : ℕ) (pins : List Pin) (es : List Triple) → OfNet (z .layers) i → LineAt (edgesKind z pins) es (linesTo (z .layers) i) → (EdgesOut z es → ⊥)
+        → EdgeTwice (edgesOf z es) → l ≡ linesTo (z .layers) i → EdgeTwiceAt l
 
   -- "7, the `edges` line: the net's edges contain a ring"
   pub data RingAt (l : ℕ) : Type 1 where
-    has-ring : (W H K i : ℕ) (pins : List Pin) (es : List Triple) → OfNet K i → LineAt (edgesKind W H pins) es (linesTo K i) → (EdgesOut W H es → ⊥)
-        → (EdgeTwice (edgesOf W H es) → ⊥) → HasRing W H (edgesOf W H es) → l ≡ linesTo K i → RingAt l
+    has-ring : (z : Sizes) (i : ℕ) (pins : List Pin) (es : List Triple) → OfNet (z .layers) i → LineAt (edgesKind z pins) es (linesTo (z .layers) i) → (EdgesOut z es → ⊥)
+        → (EdgeTwice (edgesOf z es) → ⊥) → HasRing (z .width) (z .height) (edgesOf z es) → l ≡ linesTo (z .layers) i → RingAt l
 
   -- "8, the `edges` line: no ring, but a pin or edge not reached from the first pin's tile along the edges"
   pub data ReachAt (l : ℕ) : Type 1 where
-    not-reached : (W H K i : ℕ) (pins : List Pin) (es : List Triple) → OfNet K i → LineAt (edgesKind W H pins) es (linesTo K i) → (EdgesOut W H es → ⊥)
-        → (EdgeTwice (edgesOf W H es) → ⊥) → (HasRing W H (edgesOf W H es) → ⊥) → NotReached W H pins (edgesOf W H es) → l ≡ linesTo K i → ReachAt l
+    not-reached : (z : Sizes) (i : ℕ) (pins : List Pin) (es : List Triple) → OfNet (z .layers) i → LineAt (edgesKind z pins) es (linesTo (z .layers) i) → (EdgesOut z es → ⊥)
+        → (EdgeTwice (edgesOf z es) → ⊥) → (HasRing (z .width) (z .height) (edgesOf z es) → ⊥) → NotReached (z .width) (z .height) pins (edgesOf z es) → l ≡ linesTo (z .layers) i → ReachAt l
 
   -- "9, 3: fewer working numbers than needed", "right after line 3": the line read last is line 3
   pub data WorkingAt (l : ℕ) : Type 1 where
@@ -173,23 +173,23 @@ module _ (lent : Lent) (text : List ℕ) where
   range-refused : (l : ℕ) → RangeAt l → Refused 3 l
   range-refused l (number-out key low high m d w) = by-line 3 l d (inl (w, refl))
   range-refused l (capacity-out key size cs d u w) = by-line 3 l d (inr (λ h. h u, inl (w, refl)))
-  range-refused l (pin-out W H K ps d w) = by-line 3 l d (inl (w, refl))
-  range-refused l (edge-out W H pins es d w) = by-line 3 l d (inl (w, refl))
+  range-refused l (pin-out z ps d w) = by-line 3 l d (inl (w, refl))
+  range-refused l (edge-out z pins es d w) = by-line 3 l d (inl (w, refl))
 
   turn-refused : (l : ℕ) → TurnAt l → Refused 4 l
   turn-refused l (out-of-turn K i m o d w z) = on-line 4 l z (by-line 4 (linesTo K i - 2) d (inl (w, refl)))
 
   pin-refused : (l : ℕ) → PinTwiceAt l → Refused 5 l
-  pin-refused l (pin-twice W H K i ps o d u w z) = on-line 5 l z (by-line 5 (linesTo K i - 1) d (inr (u, inl (w, refl))))
+  pin-refused l (pin-twice z i ps o d u w y) = on-line 5 l y (by-line 5 (linesTo (z .layers) i - 1) d (inr (u, inl (w, refl))))
 
   edge-refused : (l : ℕ) → EdgeTwiceAt l → Refused 6 l
-  edge-refused l (edge-twice W H K i pins es o d u w z) = on-line 6 l z (by-line 6 (linesTo K i) d (inr (u, inl (w, refl))))
+  edge-refused l (edge-twice z i pins es o d u w y) = on-line 6 l y (by-line 6 (linesTo (z .layers) i) d (inr (u, inl (w, refl))))
 
   ring-refused : (l : ℕ) → RingAt l → Refused 7 l
-  ring-refused l (has-ring W H K i pins es o d u v w z) = on-line 7 l z (by-line 7 (linesTo K i) d (inr (u, inr (v, inl (w, refl)))))
+  ring-refused l (has-ring z i pins es o d u v w y) = on-line 7 l y (by-line 7 (linesTo (z .layers) i) d (inr (u, inr (v, inl (w, refl)))))
 
   reach-refused : (l : ℕ) → ReachAt l → Refused 8 l
-  reach-refused l (not-reached W H K i pins es o d u v x w z) = on-line 8 l z (by-line 8 (linesTo K i) d (inr (u, inr (v, inr (x, inl (w, refl))))))
+  reach-refused l (not-reached z i pins es o d u v x w y) = on-line 8 l y (by-line 8 (linesTo (z .layers) i) d (inr (u, inr (v, inr (x, inl (w, refl))))))
 
   working-refused : (l : ℕ) → WorkingAt l → Refused 9 l
   working-refused l (working-short W H K s q a w z y) = by 9 l a (inl (w, refl), y ∙ sym z)
@@ -254,26 +254,26 @@ module _ (lent : Lent) (text : List ℕ) where
       told n m d (inl (w, e)) = because 4 n (suc (q .line)) e (out-of-turn K i m o (subst (LineAt (netKind i) m) z d) w z)
       told n m d (inr (u, w)) = absurd w
 
-  pins-on : (W H K i : ℕ) {f : List Pin → Chain Job} {q : Place} → OfNet K i → suc (q .line) ≡ linesTo K i - 1 → At (reads (pinsKind W H K) f) q → Goes f q → End
-  pins-on W H K i {q = q} o z a = reads-on refl a told
+  pins-on : (z : Sizes) (i : ℕ) {f : List Pin → Chain Job} {q : Place} → OfNet (z .layers) i → suc (q .line) ≡ linesTo (z .layers) i - 1 → At (reads (pinsKind z) f) q → Goes f q → End
+  pins-on z i {q = q} o y a = reads-on refl a told
     where
-      told : (n : ℕ) (ps : List Triple) → LineAt (pinsKind W H K) ps (suc (q .line)) → First (pinsKind W H K .rows ps) n → Why n (suc (q .line))
-      told n ps d (inl (w, e)) = because 3 n (suc (q .line)) e (pin-out W H K ps d w)
-      told n ps d (inr (u, inl (w, e))) = because 5 n (suc (q .line)) e (pin-twice W H K i ps o (subst (LineAt (pinsKind W H K) ps) z d) u w z)
+      told : (n : ℕ) (ps : List Triple) → LineAt (pinsKind z) ps (suc (q .line)) → First (pinsKind z .rows ps) n → Why n (suc (q .line))
+      told n ps d (inl (w, e)) = because 3 n (suc (q .line)) e (pin-out z ps d w)
+      told n ps d (inr (u, inl (w, e))) = because 5 n (suc (q .line)) e (pin-twice z i ps o (subst (LineAt (pinsKind z) ps) y d) u w y)
       told n ps d (inr (u, inr (v, w))) = absurd w
 
-  edges-on : (W H K i : ℕ) (pins : List Pin) {f : List ℕ → Chain Job} {q : Place} → OfNet K i → suc (q .line) ≡ linesTo K i
-      → At (reads (edgesKind W H pins) f) q → Goes f q → End
-  edges-on W H K i pins {q = q} o z a = reads-on refl a told
+  edges-on : (z : Sizes) (i : ℕ) (pins : List Pin) {f : List ℕ → Chain Job} {q : Place} → OfNet (z .layers) i → suc (q .line) ≡ linesTo (z .layers) i
+      → At (reads (edgesKind z pins) f) q → Goes f q → End
+  edges-on z i pins {q = q} o y a = reads-on refl a told
     where
-      here : (es : List Triple) → LineAt (edgesKind W H pins) es (suc (q .line)) → LineAt (edgesKind W H pins) es (linesTo K i)
-      here es = subst (LineAt (edgesKind W H pins) es) z
+      here : (es : List Triple) → LineAt (edgesKind z pins) es (suc (q .line)) → LineAt (edgesKind z pins) es (linesTo (z .layers) i)
+      here es = subst (LineAt (edgesKind z pins) es) y
 
-      told : (n : ℕ) (es : List Triple) → LineAt (edgesKind W H pins) es (suc (q .line)) → First (edgesKind W H pins .rows es) n → Why n (suc (q .line))
-      told n es d (inl (w, e)) = because 3 n (suc (q .line)) e (edge-out W H pins es d w)
-      told n es d (inr (u, inl (w, e))) = because 6 n (suc (q .line)) e (edge-twice W H K i pins es o (here es d) u w z)
-      told n es d (inr (u, inr (v, inl (w, e)))) = because 7 n (suc (q .line)) e (has-ring W H K i pins es o (here es d) u v w z)
-      told n es d (inr (u, inr (v, inr (x, inl (w, e))))) = because 8 n (suc (q .line)) e (not-reached W H K i pins es o (here es d) u v x w z)
+      told : (n : ℕ) (es : List Triple) → LineAt (edgesKind z pins) es (suc (q .line)) → First (edgesKind z pins .rows es) n → Why n (suc (q .line))
+      told n es d (inl (w, e)) = because 3 n (suc (q .line)) e (edge-out z pins es d w)
+      told n es d (inr (u, inl (w, e))) = because 6 n (suc (q .line)) e (edge-twice z i pins es o (here es d) u w y)
+      told n es d (inr (u, inr (v, inl (w, e)))) = because 7 n (suc (q .line)) e (has-ring z i pins es o (here es d) u v w y)
+      told n es d (inr (u, inr (v, inr (x, inl (w, e))))) = because 8 n (suc (q .line)) e (not-reached z i pins es o (here es d) u v x w y)
       told n es d (inr (u, inr (v, inr (x, inr (y, w))))) = absurd w
 
   -- two lines for each layer
@@ -286,14 +286,17 @@ module _ (lent : Lent) (text : List ℕ) where
       layers-on W H K a2 (λ above r e. g ((east ++ north) ∷ above) r (omega arith))))
 
   -- three lines for each net: m of them, from number i on
-  module _ (W H K N : ℕ) (layers : Layers K) (nets : Nets N) where
-    nets-on : (i m : ℕ) {k : List Net → Chain Job} {q : Place} → At (netsChain W H K i m k) q → 1 ≤ i → i + m ≡ suc N → q .line + 3 ≡ linesTo K i
+  module _ (z : Sizes) (N : ℕ) (layers : Layers (z .layers)) (nets : Nets N) where
+    abbrev K : ℕ
+    K = z .layers
+
+    nets-on : (i m : ℕ) {k : List Net → Chain Job} {q : Place} → At (netsChain z i m k) q → 1 ≤ i → i + m ≡ suc N → q .line + 3 ≡ linesTo K i
         → ((ns : List Net) (r : Place) → r .line ≡ linesTo K N → At (k ns) r → End) → End
     nets-on i zero {q = q} a low high e g = g [] q (omega arith) a
     nets-on i (suc m) {q = q} a low high e g =
         net-on K i of (omega arith) a (λ u q1 e1 a1.
-        pins-on W H K i of (omega arith) a1 (λ pins q2 e2 a2.
-        edges-on W H K i pins of (omega arith) a2 (λ edges q3 e3 a3.
+        pins-on z i of (omega arith) a1 (λ pins q2 e2 a2.
+        edges-on z i pins of (omega arith) a2 (λ edges q3 e3 a3.
         nets-on (suc i) m a3 (omega arith) (omega arith) (omega arith) (λ others. g (record { pins = pins; edges = edges } ∷ others)))))
       where
         of : OfNet K i
@@ -324,7 +327,7 @@ module _ (lent : Lent) (text : List ℕ) where
       ranged-on "nets" 0 mostNets a8 (λ N q9 e9 a9.
       let nets : Nets N = (_, q9, a9) in
       test-on 10 a9 (λ h. order-short K N _ q9 layers a9 h (omega arith) (omega arith)) (λ a10.
-      nets-on W H K N layers nets 1 N a10 (omega arith) (omega arith) (omega arith) (λ ns q11 e11 a11.
+      nets-on (record { width = W; height = H; layers = K }) N layers nets 1 N a10 (omega arith) (omega arith) (omega arith) (λ ns q11 e11 a11.
       then-end (textChain lent text) (start text) Why a11 (λ h. text-after _ q11 a11 h refl) (λ a12.
       let j : Job = record { width = W; height = H; layers = K; alpha = a; beta = b; gamma = g; capacities = cs; nets = ns } in
       test-on 11 a12 (λ h. room-short K N j _ q11 layers nets a12 h e11 e11) (λ a13.
