@@ -11,6 +11,7 @@ use lib.Dec.{eqb}
 use lib.ListN.{length, drop, length-append, length-map}
 use Rattle.layout.specs.Shapes.{Shaped}
 use Rattle.layout.specs.declared.Shape.{Shape}
+use Rattle.marks.specs.Words.{mostStamp}
 use Rattle.model.specs.Job.{Pin}
 use Rattle.model.specs.Lists.{all, twice}
 use Rattle.model.specs.Read.{refused, found, Triple, edgeInside, edgeAt}
@@ -102,7 +103,7 @@ module _ (g : Shape) (n parts : ℕ) (s : List ℕ) (c : Cursor) (w₀ : List �
   }
 
   module _ (w : List ℕ) (i : ℕ) (v : Seen) (passed : Passed g n parts s c w₀ w i v) where
-    pub passed-ready : Shaped g → n ≤ 8192 → Few g n w₀ → Begun g n parts w₀ → GoesOn (v .judged) → Ready g n (v .parts) w
+    pub passed-ready : Shaped g → n ≤ mostStamp → Few g n w₀ → Begun g n parts w₀ → GoesOn (v .judged) → Ready g n (v .parts) w
     passed-ready shaped small few begun on =
         shown-ready g n (begun .0) w₀ (passed .entries) (v .parts) w shaped small (begun .1) few (v .judged) (passed .shown (begun .0) w₀ (begun .1) (begun .2)) on
 

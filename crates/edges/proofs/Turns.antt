@@ -12,6 +12,7 @@ use Rattle.layout.specs.Parts.{Outside}
 use Rattle.layout.specs.Shapes.{Shaped, wayOf}
 use Rattle.layout.specs.declared.Shape.{Shape}
 use Rattle.marks.specs.Marks.{marked, mark}
+use Rattle.marks.specs.Words.{mostStamp}
 use Rattle.model.specs.Job.{Pin}
 use Rattle.model.specs.Lists.{all, twice, has, bit}
 use Rattle.model.specs.Read.{Triple, edgeInside, edgeAt}
@@ -103,7 +104,7 @@ module _ (g : Shape) (n : ℕ) (ps : List Pin) (w₀ : List ℕ) (ts : List Trip
   shows Range o s r = absurd o
 
   -- what the next edge asks for
-  pub shown-ready : Shaped g → n ≤ 8192 → 1 ≤ length ps → Few g n w₀ → (j : Judged) → Shown g n ps w₀ ts parts w j → GoesOn j → Ready g n parts w
+  pub shown-ready : Shaped g → n ≤ mostStamp → 1 ≤ length ps → Few g n w₀ → (j : Judged) → Shown g n ps w₀ ts parts w j → GoesOn j → Ready g n parts w
   shown-ready shaped small some-pin few j s o =
       let k = goes-on j o s .0 in
       record {

@@ -8,10 +8,12 @@ use lib.Dec.{eqb}
 use lib.ListN.{length, getD}
 use Rattle.layout.specs.Areas.{demandAt, flatAt, tilesAt, linksAt}
 use Rattle.layout.specs.Parts.{part}
+use Rattle.layout.specs.Shapes.{mostTiles}
 use Rattle.layout.specs.declared.Shape.{Shape}
 use Rattle.marks.specs.Marks.{marked, touched}
 use Rattle.marks.specs.Words.{Fits}
 use Rattle.model.specs.Job.{Pin}
+use Rattle.model.specs.Limits.{mostNets}
 use Rattle.model.specs.Lists.{all, twice, has, occurs, bit}
 use Rattle.model.specs.Read.{Triple, edgeInside, edgeAt}
 use Rattle.model.specs.Tree.{ring}
@@ -90,6 +92,6 @@ GoesOn Range = ⊥
 -- what the next edge asks of the working numbers
 pub record Ready (g : Shape) (n parts : ℕ) (w : List ℕ) : Type 0 where
   pub links : Links n (linksOf g w)
-  pub demand : (e : ℕ) → e < g .e → getD w (demandAt g + e) 0 ≤ 8192
+  pub demand : (e : ℕ) → e < g .e → getD w (demandAt g + e) 0 ≤ 2 * mostNets
   pub some-part : 1 ≤ parts
-  pub few-parts : parts ≤ 4096
+  pub few-parts : parts ≤ mostTiles

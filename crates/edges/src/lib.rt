@@ -13,7 +13,9 @@ ghost use lib.ListN.{length, drop, getD, set};
 ghost use Rattle.layout.specs.Areas.{demandAt, tilesAt, linksAt, chosenAt};
 ghost use Rattle.layout.specs.Parts.{Outside};
 ghost use Rattle.layout.specs.Shapes.{Shaped};
+ghost use Rattle.marks.specs.Words.{mostStamp};
 ghost use Rattle.model.specs.Job.{Pin};
+ghost use Rattle.model.specs.Limits.{mostNets};
 ghost use Rattle.model.specs.Read.{Triple, edgeInside};
 ghost use Rattle.scan.specs.Pins.{triple};
 ghost use Rattle.model.specs.Text.{cutLine};
@@ -69,7 +71,7 @@ fn inside(g: Shape, x: usize, y: usize, d: usize) -> bool
 // Marks an edge in its two tiles.
 fn put_marks(w: &mut [u32], g: Shape, stamp: u32, here: usize, there: usize, d: u32) -> Ends
     requires { ⌜ Shaped g ⌝ }
-    requires { ⌜ (chosenAt g ≤ length (now w)) × (here < g .t) × (there < g .t) × (d ≤ 1) × (stamp ≤ 8192) ⌝ }
+    requires { ⌜ (chosenAt g ≤ length (now w)) × (here < g .t) × (there < g .t) × (d ≤ 1) × (stamp ≤ mostStamp) ⌝ }
     ensures { λ r. ⌜ r ≡ endsOf stamp (tilesOf g (now (w .entry))) here there d ⌝ }
     ensures { λ _. ⌜ tilesOf g (now (w .exit)) ≡ endsAfter stamp (tilesOf g (now (w .entry))) here there d ⌝ }
     ensures { λ _. ⌜ Outside (tilesAt g) (g .t) (now (w .entry)) (now (w .exit)) ⌝ }
@@ -82,7 +84,7 @@ fn put_marks(w: &mut [u32], g: Shape, stamp: u32, here: usize, there: usize, d: 
 // Joins the two tiles of an edge. Whether they were apart.
 fn put_join(w: &mut [u32], g: Shape, stamp: u32, here: usize, there: usize) -> bool
     requires { ⌜ Shaped g ⌝ }
-    requires { ⌜ (chosenAt g ≤ length (now w)) × (here < g .t) × (there < g .t) × (stamp ≤ 8192) × Links stamp (linksOf g (now w)) ⌝ }
+    requires { ⌜ (chosenAt g ≤ length (now w)) × (here < g .t) × (there < g .t) × (stamp ≤ mostStamp) × Links stamp (linksOf g (now w)) ⌝ }
     ensures { λ r. ⌜ Merged stamp (linksOf g (now (w .entry))) here there (linksOf g (now (w .exit))) r ⌝ }
     ensures { λ _. ⌜ Outside (linksAt g) (g .t) (now (w .entry)) (now (w .exit)) ⌝ }
 {
@@ -94,7 +96,7 @@ fn put_join(w: &mut [u32], g: Shape, stamp: u32, here: usize, there: usize) -> b
 // Counts an edge into the flat demand.
 fn put_demand(w: &mut [u32], g: Shape, edge: usize)
     requires { ⌜ Shaped g ⌝ }
-    requires { ⌜ (chosenAt g ≤ length (now w)) × (edge < g .e) × (getD (now w) (demandAt g + edge) 0 ≤ 8192) ⌝ }
+    requires { ⌜ (chosenAt g ≤ length (now w)) × (edge < g .e) × (getD (now w) (demandAt g + edge) 0 ≤ 2 * mostNets) ⌝ }
     ensures { λ _. ⌜ now (w .exit) ≡ set (now (w .entry)) (demandAt g + edge) (getD (now (w .entry)) (demandAt g + edge) 0 + 1) ⌝ }
 {
     let i = layout::demand_at(g) + edge;
@@ -104,7 +106,7 @@ fn put_demand(w: &mut [u32], g: Shape, edge: usize)
 // One more edge inside the grid, where none is there twice.
 fn add_edge(w: &mut [u32], g: Shape, stamp: u32, v: Seen, x: usize, y: usize, d: usize) -> Seen
     requires { ⌜ Shaped g ⌝ }
-    requires { ⌜ (chosenAt g ≤ length (now w)) × (stamp ≤ 8192) × (v .entries < 4294967296) × (d ≤ 1) × (edgeInside (g .w) (g .h) (triple x y d) ≡ true) ⌝ }
+    requires { ⌜ (chosenAt g ≤ length (now w)) × (stamp ≤ mostStamp) × (v .entries < 4294967296) × (d ≤ 1) × (edgeInside (g .w) (g .h) (triple x y d) ≡ true) ⌝ }
     requires { ⌜ Ready g stamp (v .parts) (now w) × GoesOn (v .judged) ⌝ }
     ensures { λ r. ⌜ ((ps : List Pin) (w₀ : List ℕ) (ts : List Triple) → Shown g stamp ps w₀ ts (v .parts) (now (w .entry)) (v .judged) → Shown g stamp ps w₀ (ts ++ (triple x y d ∷ [])) (r .parts) (now (w .exit)) (r .judged)) ⌝ }
     ensures { λ r. ⌜ r .entries ≡ v .entries + 1 ⌝ }
@@ -156,7 +158,7 @@ fn goes_on(j: Judged) -> bool
 // One more entry. Where one has left the grid, or an edge is there twice, nothing is marked any more: only form and range can still decide.
 fn put_edge(w: &mut [u32], g: Shape, stamp: u32, v: Seen, x: usize, y: usize, d: usize) -> Seen
     requires { ⌜ Shaped g ⌝ }
-    requires { ⌜ (chosenAt g ≤ length (now w)) × (stamp ≤ 8192) × (v .entries < 4294967296) × (d ≤ 1) ⌝ }
+    requires { ⌜ (chosenAt g ≤ length (now w)) × (stamp ≤ mostStamp) × (v .entries < 4294967296) × (d ≤ 1) ⌝ }
     requires { ⌜ (GoesOn (v .judged) → Ready g stamp (v .parts) (now w)) ⌝ }
     ensures { λ r. ⌜ ((ps : List Pin) (w₀ : List ℕ) (ts : List Triple) → Shown g stamp ps w₀ ts (v .parts) (now (w .entry)) (v .judged) → Shown g stamp ps w₀ (ts ++ (triple x y d ∷ [])) (r .parts) (now (w .exit)) (r .judged)) ⌝ }
     ensures { λ r. ⌜ r .entries ≡ v .entries + 1 ⌝ }
@@ -207,7 +209,7 @@ fn verdict(v: Seen, from: usize, c: Cursor) -> EdgesRead
 // The entries of an `edges` line, which stand from c on.
 fn entries(s: &[u8], c: Cursor, w: &mut [u32], g: Shape, stamp: u32, parts: usize) -> EdgesRead
     requires { ⌜ Shaped g ⌝ }
-    requires { ⌜ (chosenAt g ≤ length (now w)) × (stamp ≤ 8192) × (length (now s) ≤ 1048576) ⌝ }
+    requires { ⌜ (chosenAt g ≤ length (now w)) × (stamp ≤ mostStamp) × (length (now s) ≤ 1048576) ⌝ }
     requires { ⌜ Few g stamp (now w) × Begun g stamp parts (now w) ⌝ }
     ensures { λ r. ⌜ ((ps : List Pin) (w₀ : List ℕ) → 1 ≤ length ps → Reading g stamp ps [] parts w₀ (now (w .entry)) → EntriesRead g stamp (now (s .entry)) c ps w₀ (now (w .exit)) (edgesOf (drop (c .at) (now (s .entry)))) r) ⌝ }
     ensures { λ _. ⌜ length (now (w .exit)) ≡ length (now (w .entry)) ⌝ }
@@ -239,7 +241,7 @@ fn entries(s: &[u8], c: Cursor, w: &mut [u32], g: Shape, stamp: u32, parts: usiz
 // The same, where there may be none: then byte 10 stands at c.
 fn list(s: &[u8], c: Cursor, w: &mut [u32], g: Shape, stamp: u32, parts: usize) -> EdgesRead
     requires { ⌜ Shaped g ⌝ }
-    requires { ⌜ (chosenAt g ≤ length (now w)) × (stamp ≤ 8192) × (length (now s) ≤ 1048576) ⌝ }
+    requires { ⌜ (chosenAt g ≤ length (now w)) × (stamp ≤ mostStamp) × (length (now s) ≤ 1048576) ⌝ }
     requires { ⌜ Few g stamp (now w) × Begun g stamp parts (now w) ⌝ }
     ensures { λ r. ⌜ ((ps : List Pin) (w₀ : List ℕ) → 1 ≤ length ps → Reading g stamp ps [] parts w₀ (now (w .entry)) → EntriesRead g stamp (now (s .entry)) c ps w₀ (now (w .exit)) (edgesCut (cutLine (drop (c .at) (now (s .entry))))) r) ⌝ }
     ensures { λ _. ⌜ length (now (w .exit)) ≡ length (now (w .entry)) ⌝ }
@@ -274,7 +276,7 @@ pub fn edges_line(
     parts: usize,
 ) -> EdgesRead
     requires { ⌜ Shaped g ⌝ }
-    requires { ⌜ (chosenAt g ≤ length (now w)) × (stamp ≤ 8192) × (length (now s) ≤ 1048576) × (c .at ≤ length (now s)) × (c .line < 1048576) ⌝ }
+    requires { ⌜ (chosenAt g ≤ length (now w)) × (stamp ≤ mostStamp) × (length (now s) ≤ 1048576) × (c .at ≤ length (now s)) × (c .line < 1048576) ⌝ }
     requires { ⌜ Few g stamp (now w) × Begun g stamp parts (now w) ⌝ }
     ensures { λ r. ⌜ ((ps : List Pin) (w₀ : List ℕ) → 1 ≤ length ps → Reading g stamp ps [] parts w₀ (now (w .entry)) → LineRead g stamp (now (s .entry)) c ps w₀ (now (w .exit)) r) ⌝ }
     ensures { λ _. ⌜ length (now (w .exit)) ≡ length (now (w .entry)) ⌝ }

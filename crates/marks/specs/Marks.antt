@@ -44,7 +44,7 @@ marksAfter n a t i = cond (marked n a t i) a (mark n a t i)
 -- ---- one mark
 
 module _ (n : ℕ) (a : List ℕ) (t i : ℕ) (room : t < length a) (i-small : i < 12) (new : marked n a t i ≡ false) where
-  added : bitsAt n a t + 2 ^ i < 4096
+  added : bitsAt n a t + 2 ^ i < stampUnit
   added = bit-room (bitsAt n a t) i 12 new (bits-small n (getD a t 0)) i-small
 
   pub bits-here : bitsAt n (mark n a t i) t ≡ bitsAt n a t + 2 ^ i

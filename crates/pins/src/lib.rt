@@ -10,6 +10,7 @@ ghost use Prim.Native.Nat.{ℕ, _+_, _-_, _*_, _<_, _≤_};
 ghost use lib.ListN.{length, drop};
 ghost use Rattle.layout.specs.Shapes.{sizesOf, Shaped};
 ghost use Rattle.marks.specs.Marks.{marksAfter, Older};
+ghost use Rattle.marks.specs.Words.{mostStamp};
 ghost use Rattle.model.specs.Read.{pinInside, pinsLine};
 ghost use Rattle.scan.specs.Pins.{triple, pinsOf};
 ghost use Rattle.lines.specs.Told.{mapped};
@@ -55,7 +56,7 @@ fn inside(g: Shape, x: usize, y: usize, l: usize) -> bool
 
 // One more pin inside the grid, on layer l of the tile `here`.
 fn mark_pin(a: &mut [u32], stamp: u32, here: usize, l: usize, v: Seen) -> Seen
-    requires { ⌜ (here < length (now a)) × (1 ≤ l) × (l ≤ 8) × (stamp ≤ 8192) × (v .entries < 4294967296) × (v .tiles ≤ v .entries) ⌝ }
+    requires { ⌜ (here < length (now a)) × (1 ≤ l) × (l ≤ 8) × (stamp ≤ mostStamp) × (v .entries < 4294967296) × (v .tiles ≤ v .entries) ⌝ }
     ensures { λ r. ⌜ r ≡ markedSeen stamp (now (a .entry)) here l v ⌝ }
     ensures { λ _. ⌜ now (a .exit) ≡ marksAfter stamp (now (a .entry)) here (l - 1) ⌝ }
 {
@@ -85,7 +86,7 @@ fn mark_pin(a: &mut [u32], stamp: u32, here: usize, l: usize, v: Seen) -> Seen
 // One more entry.
 fn put_pin(a: &mut [u32], g: Shape, stamp: u32, v: Seen, x: usize, y: usize, l: usize) -> Seen
     requires { ⌜ Shaped g ⌝ }
-    requires { ⌜ (g .t ≤ length (now a)) × (stamp ≤ 8192) × (v .entries < 4294967296) × (v .tiles ≤ v .entries) ⌝ }
+    requires { ⌜ (g .t ≤ length (now a)) × (stamp ≤ mostStamp) × (v .entries < 4294967296) × (v .tiles ≤ v .entries) ⌝ }
     ensures { λ r. ⌜ r ≡ seenAfter g stamp (now (a .entry)) v (triple x y l) ⌝ }
     ensures { λ _. ⌜ now (a .exit) ≡ workAfter g stamp (now (a .entry)) (triple x y l) ⌝ }
 {
@@ -122,7 +123,7 @@ fn verdict(v: Seen, from: usize, c: Cursor) -> PinsRead
 // The entries of a `pins` line, which stand from c on.
 fn entries(s: &[u8], c: Cursor, a: &mut [u32], g: Shape, stamp: u32) -> PinsRead
     requires { ⌜ Shaped g ⌝ }
-    requires { ⌜ (g .t ≤ length (now a)) × (stamp ≤ 8192) × (length (now s) ≤ 1048576) ⌝ }
+    requires { ⌜ (g .t ≤ length (now a)) × (stamp ≤ mostStamp) × (length (now s) ≤ 1048576) ⌝ }
     ensures { λ r. ⌜ pinsTold (now (s .entry)) (now (a .exit)) r ≡ finish g stamp (c .line) start (now (a .entry)) (pinsOf (drop (c .at) (now (s .entry)))) ⌝ }
     ensures { λ r. ⌜ pinsIn (length (now (s .entry))) (c .at) (c .line) r ⌝ }
     ensures { λ _. ⌜ length (now (a .exit)) ≡ length (now (a .entry)) ⌝ }
@@ -155,7 +156,7 @@ fn entries(s: &[u8], c: Cursor, a: &mut [u32], g: Shape, stamp: u32) -> PinsRead
 // The `pins` line at c. The marks are those of earlier nets.
 pub fn pins_line(s: &[u8], c: Cursor, a: &mut [u32], g: Shape, stamp: u32) -> PinsRead
     requires { ⌜ Shaped g ⌝ }
-    requires { ⌜ (g .t ≤ length (now a)) × (stamp ≤ 8192) × (length (now s) ≤ 1048576) × (c .at ≤ length (now s)) × (c .line < 1048576) ⌝ }
+    requires { ⌜ (g .t ≤ length (now a)) × (stamp ≤ mostStamp) × (length (now s) ≤ 1048576) × (c .at ≤ length (now s)) × (c .line < 1048576) ⌝ }
     requires { ⌜ Older stamp (now a) ⌝ }
     ensures { λ r. ⌜ pinsTold (now (s .entry)) (now (a .exit)) r ≡ mapped (pinsMarked stamp (now (a .entry))) (pinsLine (sizesOf g) (placeOf (now (s .entry)) c)) ⌝ }
     ensures { λ r. ⌜ pinsIn (length (now (s .entry))) (c .at + 5) (c .line + 1) r ⌝ }

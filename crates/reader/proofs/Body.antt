@@ -19,6 +19,7 @@ use Rattle.layout.specs.declared.Shape.{Shape}
 use Rattle.lines.specs.Told.{After, mapped, refusedBy}
 use Rattle.marks.specs.Marks.{fits-older}
 use Rattle.model.specs.Job.{Net}
+use Rattle.model.specs.Limits.{mostNets}
 use Rattle.model.specs.Read.{Place, Result, refused, found, pinsLine, edgesLine}
 use Rattle.net.specs.Table.{PinsAt, EdgesAt}
 use Rattle.pins.specs.Pins.{pinsIn, pinsTold, pinsMarked}
@@ -58,7 +59,7 @@ net-ok g net p q r t a b =
     }
 
 -- it has fewer edges than there are tiles
-pub few-edges : (g : Shape) → Shaped g → (net : Net) → NetOk (g .w) (g .h) (g .k) net → length (net .edges) < 4096
+pub few-edges : (g : Shape) → Shaped g → (net : Net) → NetOk (g .w) (g .h) (g .k) net → length (net .edges) < mostNets
 few-edges g shaped net ok =
     omega (
       arith,
@@ -142,7 +143,7 @@ module _ (s : List ℕ) (c : Cursor) (g : Shape) (shaped : Shaped g) (i : ℕ) (
         are = refl;
       }
 
-      pub edges-number : e .entries ≤ 4096
+      pub edges-number : e .entries ≤ mostNets
       edges-number = omega (arith, line .line .count-is, few-edges g shaped net ok)
 
       counted : NetCounted g i (record { pins = fine .pins; edges = edgesOn g (line .line .entries) }) w₀ w₂

@@ -9,10 +9,11 @@ use lib.ListN.{length, getD, drop, length-append, length-take, List·getD-append
 use lib.Seq.{getD-append-seam}
 use Rattle.layout.specs.Areas.{demandAt, tilesAt, linksAt, chosenAt}
 use Rattle.layout.specs.Parts.{part, part-at}
-use Rattle.layout.specs.Shapes.{sizesOf, Shaped}
+use Rattle.layout.specs.Shapes.{sizesOf, Shaped, mostTiles}
 use Rattle.layout.specs.Table.{pinsColumn, edgesColumn, entriesColumn, firstColumn, countColumn}
 use Rattle.layout.specs.declared.Shape.{Shape}
 use Rattle.lines.specs.Told.{refusedBy}
+use Rattle.marks.specs.Words.{stampUnit}
 use Rattle.model.specs.Job.{Net, lengths}
 use Rattle.model.specs.Limits.{mostNets}
 use Rattle.model.specs.Lists.{occurs}
@@ -68,7 +69,7 @@ module _ (g : Shape) (shaped : Shaped g) where
   demand-few e [] h = omega arith
   demand-few e (n ∷ ns) h = omega (arith, h .0 .once e, demand-few e ns (h .1))
 
-  entries-few : (ns : List Net) → EachNet (NetOk (g .w) (g .h) (g .k)) ns → lengths (edgesOf ns) ≤ length ns * 4096
+  entries-few : (ns : List Net) → EachNet (NetOk (g .w) (g .h) (g .k)) ns → lengths (edgesOf ns) ≤ length ns * mostTiles
   entries-few [] h = omega arith
   entries-few (n ∷ ns) h = omega (arith, few-edges g shaped n (h .0), entries-few ns (h .1))
 
@@ -100,17 +101,17 @@ module _ (s : List ℕ) (g : Shape) (shaped : Shaped g) where
     rows = λ i h. absurd (omega arith);
   }
     where
-      older : (a t : ℕ) → tilesAt g ≤ a → a + g .t ≤ chosenAt g → getD (part a (g .t) w) t 0 < 1 * 4096
+      older : (a t : ℕ) → tilesAt g ≤ a → a + g .t ≤ chosenAt g → getD (part a (g .t) w) t 0 < 1 * stampUnit
       older a t h b = go (decLt t (g .t))
         where
-          go : Dec (t < g .t) → getD (part a (g .t) w) t 0 < 1 * 4096
+          go : Dec (t < g .t) → getD (part a (g .t) w) t 0 < 1 * stampUnit
           go (yes l) = omega (arith, part-at a (g .t) w t l, ready .kept (a + t) (omega arith) (omega arith))
           go (no l) = omega (arith, List·getD-eq-default (part a (g .t) w) 0 {n = t} (omega (arith, length-take (g .t) (drop a w))))
 
   -- ---- one net more
 
   module _ (ns : List Net) (entries : ℕ) (w₀ w table : List ℕ) (so : SoRead s g ns entries w₀ w table) where
-    pub nets-few : entries ≤ length ns * 4096
+    pub nets-few : entries ≤ length ns * mostTiles
     nets-few = omega (arith, so .entries-are, entries-few g shaped ns (so .ok))
 
     pub nets-ready : (i : ℕ) → length ns ≡ i → i < mostNets → chosenAt g ≤ length w₀ → NetReady g i w
@@ -207,7 +208,7 @@ module _ (s : List ℕ) (g : Shape) (shaped : Shaped g) (n from : ℕ) (w₀ : L
     pub midway-ready : i < n → n ≤ mostNets → chosenAt g ≤ length w₀ → NetReady g i w
     midway-ready h m room = nets-ready s g shaped (mid .done) entries w₀ w table (mid .so-read) i (mid .count) (omega arith) room
 
-    pub midway-few : entries ≤ i * 4096
+    pub midway-few : entries ≤ i * mostTiles
     midway-few = omega (arith, nets-few s g shaped (mid .done) entries w₀ w table (mid .so-read), mid .count)
 
     -- the definitions read one net more
@@ -241,7 +242,7 @@ module _ (s : List ℕ) (g : Shape) (shaped : Shaped g) (n from : ℕ) (w₀ : L
 
     pub midway-count : i < n → (line : ℕ) (w′ table′ : List ℕ) (d : Cursor) (count : ℕ) → line ≡ c .line + 3
         → NetFound s g i entries line w w′ table table′ (netLines (sizesOf g) (i + 1) (placeOf s c)) d count
-        → entries + count ≤ (i + 1) * 4096
+        → entries + count ≤ (i + 1) * mostTiles
     midway-count h line w′ table′ d count l f =
         let m = midway-next h line w′ table′ d count l f in
         omega (arith, nets-few s g shaped (m .done) (entries + count) w₀ w′ table′ (m .so-read), m .count)

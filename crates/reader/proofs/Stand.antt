@@ -10,6 +10,7 @@ use lib.ListN.{length, drop, getD, set, length-set}
 use lib.Seq.{drop-drop, getD-set-same, getD-set-other}
 use Rattle.layout.specs.Table.{pinsColumn, edgesColumn, entriesColumn, firstColumn, countColumn, tableSize}
 use Rattle.model.specs.Job.{Net}
+use Rattle.model.specs.Limits.{mostNets}
 use Rattle.model.specs.Lists.{all, twice}
 use Rattle.model.specs.Read.{Place, refused, found, pinInside, pinAt, samePin, pinsLine}
 use Rattle.model.specs.Text.{bytes}
@@ -45,7 +46,7 @@ module _ (s : List ℕ) (W H K at : ℕ) (net : Net) (n : ℕ) (q : Place) where
 
 -- ---- the row
 
-module _ (t : List ℕ) (i a b c d e : ℕ) (turn : i < 4096) (long : tableSize ≤ length t) where
+module _ (t : List ℕ) (i a b c d e : ℕ) (turn : i < mostNets) (long : tableSize ≤ length t) where
   abbrev t₁ : List ℕ
   t₁ = set t (pinsColumn i) a
 

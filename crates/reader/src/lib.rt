@@ -22,6 +22,8 @@ ghost use Rattle.layout.specs.Shapes.{sizesOf, Shaped};
 ghost use Rattle.layout.specs.Table.{tableSize};
 ghost use Rattle.lines.specs.Told.{listIn, mapped};
 ghost use Rattle.marks.specs.Marks.{Older};
+ghost use Rattle.marks.specs.Words.{mostStamp};
+ghost use Rattle.model.specs.Limits.{mostNets};
 ghost use Rattle.model.specs.Read.{netLine, pinsLine, netLines, nets, printNeed, printFits};
 ghost use Rattle.pins.specs.Pins.{pinsIn, pinsTold, pinsMarked};
 ghost use Rattle.text.specs.Refusals.{placeOf};
@@ -73,7 +75,7 @@ fn net_line(s: &[u8], c: Cursor, turn: usize) -> Listed
 // The `pins` line, its pins marked by tile.
 fn net_pins(s: &[u8], c: Cursor, w: &mut [u32], g: Shape, stamp: u32) -> PinsRead
     requires { ⌜ Shaped g ⌝ }
-    requires { ⌜ (chosenAt g ≤ length (now w)) × (stamp ≤ 8192) × (length (now s) ≤ 1048576) × (c .at ≤ length (now s)) × (c .line < 1048576) ⌝ }
+    requires { ⌜ (chosenAt g ≤ length (now w)) × (stamp ≤ mostStamp) × (length (now s) ≤ 1048576) × (c .at ≤ length (now s)) × (c .line < 1048576) ⌝ }
     requires { ⌜ Older stamp (tilesOf g (now w)) ⌝ }
     ensures { λ r. ⌜ pinsTold (now (s .entry)) (tilesOf g (now (w .exit))) r ≡ mapped (pinsMarked stamp (tilesOf g (now (w .entry)))) (pinsLine (sizesOf g) (placeOf (now (s .entry)) c)) ⌝ }
     ensures { λ r. ⌜ pinsIn (length (now (s .entry))) (c .at + 5) (c .line + 1) r ⌝ }
@@ -92,7 +94,7 @@ pub struct Row {
 
 // What the lines of a net say in its row.
 fn put_row(table: &mut [u32], row: Row, pins: Pins, edges: Edges)
-    requires { ⌜ (row .i < 4096) × (tableSize ≤ length (now table)) ⌝ }
+    requires { ⌜ (row .i < mostNets) × (tableSize ≤ length (now table)) ⌝ }
     requires { ⌜ (pins .from ≤ 16777216) × (edges .from ≤ 16777216) × (pins .entries ≤ 16777216) × (row .first ≤ 16777216) × (edges .entries ≤ 16777216) ⌝ }
     ensures { λ _. ⌜ now (table .exit) ≡ rowPut (now (table .entry)) (row .i) (pins .from) (edges .from) (pins .entries) (row .first) (edges .entries) ⌝ }
 {
@@ -151,7 +153,7 @@ fn read_nets(
     n: usize,
 ) -> NetsRead
     requires { ⌜ Shaped g ⌝ }
-    requires { ⌜ (from .at ≤ length (now s)) × (from .line < 1000) × (length (now s) ≤ 1048576) × (n ≤ 4096) ⌝ }
+    requires { ⌜ (from .at ≤ length (now s)) × (from .line < 1000) × (length (now s) ≤ 1048576) × (n ≤ mostNets) ⌝ }
     requires { ⌜ NetsReady g (now w) (now table) ⌝ }
     ensures { λ r. ⌜ NetsTold (now (s .entry)) g n (from .line + 3 * n) (now (w .entry)) (now (w .exit)) (now (table .exit)) (nets (sizesOf g) 1 n (placeOf (now (s .entry)) from)) r ⌝ }
     ensures { λ _. ⌜ (length (now (w .exit)) ≡ length (now (w .entry))) × (length (now (table .exit)) ≡ length (now (table .entry))) ⌝ }
@@ -177,7 +179,7 @@ fn read_nets(
 
 // Whether the print of n nets with so many edges fits: "256 + 64 × N + 2 × A bytes".
 fn print_fits(n: usize, entries: usize, print: PrintRoom) -> bool
-    requires { ⌜ (n ≤ 4096) × (entries ≤ 16777216) ⌝ }
+    requires { ⌜ (n ≤ mostNets) × (entries ≤ 16777216) ⌝ }
     ensures { λ r. ⌜ r ≡ printFits (printNeed n entries) (printLent print) ⌝ }
 {
     match print {
@@ -195,7 +197,7 @@ fn read_end(
     answer: usize,
     print: PrintRoom,
 ) -> Listed
-    requires { ⌜ (c .at ≤ length (now s)) × (c .line < 1048576) × (n ≤ 4096) × (entries ≤ 16777216) ⌝ }
+    requires { ⌜ (c .at ≤ length (now s)) × (c .line < 1048576) × (n ≤ mostNets) × (entries ≤ 16777216) ⌝ }
     ensures { λ r. ⌜ turnTold (now (s .entry)) r ≡ endIn n entries answer (printLent print) (placeOf (now (s .entry)) c) ⌝ }
 {
     if c.at < s.len() {
@@ -221,7 +223,7 @@ fn read_rest(
     print: PrintRoom,
 ) -> JobRead
     requires { ⌜ Shaped (h .shape) ⌝ }
-    requires { ⌜ (c .at ≤ length (now s)) × (c .line < 1000) × (length (now s) ≤ 1048576) × (h .nets ≤ 4096) ⌝ }
+    requires { ⌜ (c .at ≤ length (now s)) × (c .line < 1000) × (length (now s) ≤ 1048576) × (h .nets ≤ mostNets) ⌝ }
     requires { ⌜ NetsReady (h .shape) (now w) (now table) ⌝ }
     ensures { λ r. ⌜ RestTold (now (s .entry)) h answer print (placeOf (now (s .entry)) c) (now (w .entry)) (now (w .exit)) (now (table .exit)) r ⌝ }
     ensures { λ _. ⌜ (length (now (w .exit)) ≡ length (now (w .entry))) × (length (now (table .exit)) ≡ length (now (table .entry))) ⌝ }

@@ -9,6 +9,7 @@ use native.Mathlib.Omega.{arith}
 use lib.Dec.{eqb}
 use lib.ListN.{length, getD, set, length-set}
 use lib.Seq.{getD-set-same, getD-set-other}
+use Rattle.layout.specs.Shapes.{mostTiles}
 use Rattle.marks.specs.Words.{stampUnit}
 use Rattle.theory.specs.congestion.Sums.{same-cases, eqb-true, eqb-false}
 use Rattle.theory.specs.walk.Joined.{relabel, relabel-same}
@@ -18,7 +19,7 @@ use Rattle.union.specs.Links.{parentIn, Links, Kept, Found, Merged, pare
 
 -- ---- one word
 
-module _ (n : ℕ) (a : List ℕ) (x q : ℕ) (inside : x < length a) (small : q < 4096) where
+module _ (n : ℕ) (a : List ℕ) (x q : ℕ) (inside : x < length a) (small : q < stampUnit) where
   abbrev new : List ℕ
   new = set a x (n * stampUnit + q)
 
@@ -53,7 +54,7 @@ module _ (n : ℕ) (a : List ℕ) (x q : ℕ) (inside : x < length a) (small : q
 -- ---- the search
 
 -- tile t goes to its parent's parent
-pub halved : (n : ℕ) (a : List ℕ) (t : ℕ) → Links n a → length a ≤ 4096 → t < length a → Kept n a (set a t (n * stampUnit + parentIn n a (parentIn n a t)))
+pub halved : (n : ℕ) (a : List ℕ) (t : ℕ) → Links n a → length a ≤ mostTiles → t < length a → Kept n a (set a t (n * stampUnit + parentIn n a (parentIn n a t)))
 halved n a t h room inside = record {
   links = put-links n a t q inside small h low;
   same-length = simp length-set;
@@ -67,7 +68,7 @@ halved n a t h room inside = record {
     low : q ≤ t
     low = omega (arith, h .falling t, h .falling (parentIn n a t))
 
-    small : q < 4096
+    small : q < stampUnit
     small = omega (arith, low)
 
 -- while the search is at tile t: it has the root of tile x, and no root changed
@@ -79,7 +80,7 @@ pub record Searched (n : ℕ) (a : List ℕ) (x : ℕ) (b : List ℕ) (t : ℕ) 
 pub searched-start : (n : ℕ) (a : List ℕ) (x : ℕ) → Links n a → x < length a → Searched n a x a x
 searched-start n a x h inside = record { inside = inside; kept = record { links = h; same-length = refl; roots = λ i. refl }; root = refl }
 
-pub searched-again : (n : ℕ) (a : List ℕ) (x : ℕ) (b : List ℕ) (t p q : ℕ) (c : List ℕ) → Searched n a x b t → length a ≤ 4096
+pub searched-again : (n : ℕ) (a : List ℕ) (x : ℕ) (b : List ℕ) (t p q : ℕ) (c : List ℕ) → Searched n a x b t → length a ≤ mostTiles
     → p ≡ parentIn n b t → q ≡ parentIn n b p → c ≡ set b t (n * stampUnit + q) → Searched n a x c q
 searched-again n a x b t p q c h room ep eq ec = rw ec record {
   inside = rw length-set (omega (arith, low, h .inside));
@@ -134,7 +135,7 @@ module _ (n : ℕ) (a : List ℕ) (x y : ℕ) (b : List ℕ) (p : ℕ) (c : List
   }
 
   -- they had two: the larger, m, goes below the smaller, v
-  pub merged-two : length a ≤ 4096 → p ≢ q → (m v : ℕ) (d : List ℕ) → m ≡ max p q → v ≡ min p q → d ≡ set c m (n * stampUnit + v) → Merged n a x y d true
+  pub merged-two : length a ≤ mostTiles → p ≢ q → (m v : ℕ) (d : List ℕ) → m ≡ max p q → v ≡ min p q → d ≡ set c m (n * stampUnit + v) → Merged n a x y d true
   merged-two room ne m v d em ev ed = rw ed record {
     apart = sym (ap not (eqb-false _ _ (λ e. ne (one .is-root ∙ e ∙ sym is-two))));
     links = put-links n c m v inside small (two .kept .links) (omega arith);
@@ -152,7 +153,7 @@ module _ (n : ℕ) (a : List ℕ) (x y : ℕ) (b : List ℕ) (p : ℕ) (c : List
       inside : m < length c
       inside = omega (arith, one .inside, two .inside, one .kept .same-length, two .kept .same-length)
 
-      small : v < 4096
+      small : v < stampUnit
       small = omega (arith, inside, length-same)
 
       fixed : (k t : ℕ) → k ≡ topOf par t → par k ≡ k

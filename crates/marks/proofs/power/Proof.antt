@@ -10,11 +10,12 @@ use lib.Pow.{shl-exact}
 use borrow.Author.Needs.{needs}
 use Rattle.marks.proofs.power.Statement.{statement}
 use Rattle.marks.proofs.power.Tie as tie
+use Rattle.marks.specs.Words.{stampUnit}
 
 one-shl : (l : ℕ) → l < 32 → (1 * 2 ^ l) % 2 ^ 32 ≡ 2 ^ l
 one-shl l h = shl-exact {a = 1} 1 l 32 (lit< tt) (subst (λ (x : ℕ). x ≤ 32) (sym (one-add l)) h) ∙ one-mul (2 ^ l)
 
-small : (l : ℕ) → l < 12 → 2 ^ l < 4096
+small : (l : ℕ) → l < 12 → 2 ^ l < stampUnit
 small l h =
     let k : l ≤ 11 = omega arith in
     let p : 2 ^ l ≤ 2 ^ 11 = pow-le-pow-right (lit< tt) k in
