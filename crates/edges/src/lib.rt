@@ -8,7 +8,7 @@ use ways::Ends;
 ghost use mathlib.Core.Path.{_≡_};
 ghost use mathlib.Core.Bool.{true, false};
 ghost use mathlib.Core.List.{List, [], _∷_, _++_};
-ghost use Prim.Native.Nat.{ℕ, _+_, _-_, _<_, _≤_};
+ghost use Prim.Native.Nat.{ℕ, _+_, _-_, _<_, _≤_, _*_};
 ghost use lib.ListN.{length, drop, getD, set};
 ghost use Rattle.layout.specs.Areas.{demandAt, tilesAt, linksAt, chosenAt};
 ghost use Rattle.layout.specs.Parts.{Outside};
