@@ -9,7 +9,7 @@ use native.Mathlib.Omega.{arith}
 use lib.ListN.{getD, length, length-map}
 use Rattle.theory.specs.congestion.Sums.{In, same-refl, same-cases, in-head, in-tail}
 use Rattle.theory.specs.engine.Branches.{below}
-use Rattle.theory.specs.engine.Span.{span, Climbs, Covers, covers-cons, span-set, span-shift}
+use Rattle.theory.specs.engine.Span.{span, Covers, covers-cons, span-set, span-shift}
 use Rattle.theory.specs.engine.Sweeps.{apart}
 use Rattle.theory.specs.engine.Swept.{swept-top}
 use Rattle.theory.specs.engine.Meeting as any
@@ -18,9 +18,7 @@ use Rattle.costs.specs.Rows.{illegalCost, rowAt, LeastCost}
 use Rattle.costs.specs.Combinations.{covers-none}
 use Rattle.costs.specs.Sweeps.{swept, met, pairMet, tripleMet}
 use Rattle.costs.proofs.Around.{by-lists}
-
-climbs : Climbs suc
-climbs a b h = omega arith
+use Rattle.costs.proofs.Steps.{climbs}
 
 -- ---- layers counted from 0
 

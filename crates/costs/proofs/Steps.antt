@@ -3,7 +3,7 @@
 use mathlib.Core.Path.{_≡_, refl, sym, ap, ap₂, _∙_, subst}
 use mathlib.Core.List.{List, [], _∷_}
 use mathlib.Core.Bool.{Bool, true, false, cond}
-use mathlib.Core.Logic.{_⊎_, inl, inr, ⊎-elim, _≢_}
+use mathlib.Core.Logic.{_⊎_, inl, inr}
 use Prim.Native.Nat.{ℕ, zero, suc, _+_, _-_, _*_, _≤_, _<_, min}
 use native.Mathlib.Omega.{arith}
 use native.Mathlib.Numerals.{add-one}
@@ -13,16 +13,16 @@ use lib.Seq.{getD-set-same, getD-set-other}
 use Rattle.model.specs.Lists.{upFrom}
 use Rattle.theory.specs.congestion.Sums.{lt-or-ge, in-head}
 use Rattle.theory.specs.engine.Span.{span, Climbs, covers-cons}
-use Rattle.theory.specs.engine.Interval.{leastIn, least-in-top}
+use Rattle.theory.specs.engine.Interval.{leastIn}
 use Rattle.theory.specs.engine.Sweeps as any
 use Rattle.theory.specs.engine.Swept.{up-top, swept-top, down-same, swept-same}
 use Rattle.costs.specs.Mask.{has, withLayer, spanOf, IsSet, set-none, mask-price, with-small, span-le-7, top, bottom, no-layer, Ends, ends-of}
 use Rattle.costs.specs.Rows.{illegalCost, Eight, LayerMask}
-use Rattle.costs.specs.Intervals.{leastOver, within, branchSum, interval, leastEnd, around, Taken, PinEnds}
+use Rattle.costs.specs.Intervals.{leastOver, within, interval, leastEnd, around, Taken, PinEnds}
 use Rattle.costs.specs.Combinations.{covers-none}
 use Rattle.costs.specs.Sweeps.{sweptUp, sweptDown, swept, met, thirdMet, Small}
 use Rattle.costs.proofs.Runs.{run-more, run-same}
-use Rattle.costs.proofs.Around.{over-top, sum-top}
+use Rattle.costs.proofs.Around.{sum-top}
 
 pub long-set : (v : List ℕ) (b x : ℕ) → length v ≡ 8 → length (set v b x) ≡ 8
 long-set v b x n = length-set v b x ∙ n
@@ -195,7 +195,7 @@ around-end w o first k starts s high c e p = subst (λ (x : ℕ). Eight c (aroun
 -- ---- the sweeps
 
 -- a layer is one via above the next below it
-climbs : Climbs suc
+pub climbs : Climbs suc
 climbs a b h = omega arith
 
 pub up-small : (g : ℕ → ℕ) (l : ℕ) → sweptUp g l ≤ illegalCost

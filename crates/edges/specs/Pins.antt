@@ -30,7 +30,7 @@ use Rattle.theory.specs.links.Reach.{loOf, hiOf}
 use Rattle.theory.specs.links.Reading.{PinsOk, pins-give, gives-found}
 use Rattle.theory.specs.walk.NetVias.{pinTiles, netTiles}
 use Rattle.theory.specs.walk.Parts.{touches-test}
-use Rattle.union.specs.Links.{parentIn, Older as OlderLinks, older-links}
+use Rattle.union.specs.Links.{parentIn, older-links}
 use Rattle.union.specs.Parts.{older-counted}
 use Rattle.ways.specs.Ends.{first-mark}
 use Rattle.ways.specs.Entry.{startOf}
@@ -110,7 +110,7 @@ module _ (lo hi : ℕ → ℕ) (n : ℕ) (par : ℕ → ℕ) (size : ℕ) where
 
 -- The marks of the tiles are those of earlier nets and then of the pins ps; the links are those of earlier nets.
 module _ (g : Shape) (n : ℕ) (ps : List Pin) (fit : PinsFit g ps) (w₀ w : List ℕ) (room : chosenAt g ≤ length w₀) (tiles-older : Older n (tilesOf g w₀))
-    (links-older : OlderLinks n (linksOf g w₀)) (out : Outside (tilesAt g) (g .t) w₀ w) (marks : tilesOf g w ≡ markPins n (tilesOf g w₀) ps) where
+    (links-older : Older n (linksOf g w₀)) (out : Outside (tilesAt g) (g .t) w₀ w) (marks : tilesOf g w ≡ markPins n (tilesOf g w₀) ps) where
   long : length (tilesOf g w₀) ≡ g .t
   long = part-long (tilesAt g) (g .t) w₀ (omega arith)
 

@@ -26,7 +26,7 @@ use Rattle.theory.specs.links.Tests.{twice-once}
 use Rattle.theory.specs.walk.Parts.{rootMark, touches-test}
 use Rattle.theory.specs.walk.Stops.{occurs-append}
 use Rattle.theory.specs.walk.Union.{topOf}
-use Rattle.union.specs.Links.{Merged, Older as OlderLinks, links-older}
+use Rattle.union.specs.Links.{Merged, links-older}
 use Rattle.union.specs.Parts.{merged-edge}
 use Rattle.union.specs.Rings.{merged-ring}
 use Rattle.ways.specs.Ends.{firstMark, endsAfter, first-mark, ends-forth, start-touches, ends-touch, ends-fit}
@@ -196,7 +196,7 @@ reading-here g n ps parts w₀ w r = record {
 
 -- after a net every stamp is earlier than the next net's
 pub reading-older : (g : Shape) (n : ℕ) (ps : List Pin) (es : List ℕ) (parts : ℕ) (w₀ w : List ℕ) → Reading g n ps es parts w₀ w
-    → Older (n + 1) (tilesOf g w) × OlderLinks (n + 1) (linksOf g w)
+    → Older (n + 1) (tilesOf g w) × Older (n + 1) (linksOf g w)
 reading-older g n ps es parts w₀ w r = (fits-older n (tilesOf g w) (r .fits), links-older n (linksOf g w) (r .links))
 
 -- no edge has more nets than were read

@@ -12,7 +12,7 @@ use lib.Count.{leadingZeros, trailingZeros}
 use lib.Dec.{T, eqb, eqb→eq, leb, leb→le, ltb, ltb→lt, lt→ltb}
 use lib.ListN.{getD}
 use Rattle.theory.specs.congestion.Sums.{eqb-true, eqb-false, lt-or-ge}
-use Rattle.theory.specs.engine.Loops.{Turn, Passed, FirstTurn}
+use Rattle.theory.specs.engine.Loops.{Turn, Passed}
 use Rattle.costs.specs.Computed.{all}
 use Rattle.costs.specs.Computed as computed
 use Rattle.costs.specs.Mask.{withLayer, spanOf, with-small}

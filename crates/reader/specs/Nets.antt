@@ -22,7 +22,7 @@ use Rattle.text.specs.Refusals.{placeOf}
 use Rattle.text.specs.declared.Cursor.{Cursor}
 use Rattle.theory.specs.links.Nets.{NetOk, EachNet}
 use Rattle.theory.specs.links.Stretches.{offset}
-use Rattle.union.specs.Links.{Older as OlderLinks}
+use Rattle.union.specs.Links.{Older as Older}
 use Rattle.reader.specs.Rows.{RowAt}
 use Rattle.reader.specs.declared.NetRead.{NetRead}
 use Rattle.reader.specs.declared.NetRead.the-variants.{Net as read, Refused}
@@ -53,7 +53,7 @@ pub record NetReady (g : Shape) (i : ℕ) (w : List ℕ) : Type 0 where
   pub turn : i < mostNets
   pub room : chosenAt g ≤ length w
   pub marks : Older (suc i) (tilesOf g w)
-  pub links : OlderLinks (suc i) (linksOf g w)
+  pub links : Older (suc i) (linksOf g w)
   pub few : Few g (suc i) w
 
 -- what net i leaves in the working numbers
@@ -62,7 +62,7 @@ pub record NetCounted (g : Shape) (i : ℕ) (net : Net) (w w′ : List ℕ) : Ty
   pub low : (k : ℕ) → k < demandAt g → getD w′ k 0 ≡ getD w k 0
   pub demand : (e : ℕ) → e < g .e → getD w′ (demandAt g + e) 0 ≡ getD w (demandAt g + e) 0 + occurs e (net .edges)
   pub marks : Older (suc (suc i)) (tilesOf g w′)
-  pub links : OlderLinks (suc (suc i)) (linksOf g w′)
+  pub links : Older (suc (suc i)) (linksOf g w′)
 
 -- a net was read, as r says, with its last line and the place after it; its layers begin at `first`
 pub record NetFound (s : List ℕ) (g : Shape) (i first line : ℕ) (w w′ table table′ : List ℕ) (r : Result Net) (c : Cursor) (count : ℕ) : Type 0 where
@@ -94,7 +94,7 @@ pub record SoRead (s : List ℕ) (g : Shape) (ns : List Net) (entries : ℕ) (w�
   pub low : (k : ℕ) → k < demandAt g → getD w k 0 ≡ getD w₀ k 0
   pub demands : (e : ℕ) → e < g .e → getD w (demandAt g + e) 0 ≡ demand e (edgesOf ns)
   pub marks : Older (suc (length ns)) (tilesOf g w)
-  pub links : OlderLinks (suc (length ns)) (linksOf g w)
+  pub links : Older (suc (length ns)) (linksOf g w)
   pub ok : EachNet (NetOk (g .w) (g .h) (g .k)) ns
   pub entries-are : entries ≡ lengths (edgesOf ns)
   pub table-long : tableSize ≤ length table

@@ -1,6 +1,6 @@
 -- `leaf_costs` meets its contract. The loop's invariant: the layers below l have the vias of the pins with that layer.
 -- Assumes nothing.
-use mathlib.Core.Path.{_≡_, refl, _∙_, ap}
+use mathlib.Core.Path.{refl, _∙_, ap}
 use Prim.Native.Nat.{suc, _-_}
 use native.Mathlib.Omega.{arith}
 use native.Mathlib.Numerals.{add-one}

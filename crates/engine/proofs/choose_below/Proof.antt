@@ -58,22 +58,9 @@ choose-branches-requires : tie.Need-choose-branches-requires
 choose-branches-requires c κs =
     let b : tie.After-with-layer = c .before in
     let g = s b .args in
-    let ok = ready b in (
-      s b .pre .0,
-      (
-        omega (arith, count-here b, ok .few),
-        (
-          omega arith,
-          (
-            (omega (arith, s b), omega (arith, s b)),
-            (
-              (omega (arith, first-here b, count-here b, ok .rising, ok .within), omega (arith, s b)),
-              (omega (arith, s b), tile-attained (g .w .now) (g .m) (g .i) (g .layers) (first b) (end b - first b) (base b) (goal b) ok (first-here b) (count-here b) (base-here b) (goal-here b)),
-            ),
-          ),
-        ),
-      ),
-    )
+    let ok = ready b in
+    let attained = tile-attained (g .w .now) (g .m) (g .i) (g .layers) (first b) (end b - first b) (base b) (goal b) ok (first-here b) (count-here b) (base-here b) (goal-here b) in
+    (s b .pre .0, (omega (arith, count-here b, ok .few), (omega arith, ((omega (arith, s b), omega (arith, s b)), ((omega (arith, first-here b, count-here b, ok .rising, ok .within), omega (arith, s b)), (omega (arith, s b), attained))))))
 
 returns-2 : tie.Need-returns-2
 returns-2 c =

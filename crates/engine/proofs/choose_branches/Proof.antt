@@ -33,22 +33,9 @@ module _ (s : tie.Start) (k K : ℕ) (k-is : s .args .k ≡ k) (K-is : s .args .
   -- what the search asks
   search-asks : Charted spanOf (s .args .chart .now)
       × ((k ≤ 3) × ((base < 256) × (((1 ≤ K) × (K ≤ 8)) × (((first ≤ 65536) × (4 * m ≤ 16777216)) × ((4 * m + 8 * (first + k) ≤ length w) × Attained w (4 * m) first k K base goal)))))
-  search-asks = (
-    s .pre .0,
-    (
-      omega arith,
-      (
-        omega arith,
-        (
-          (omega arith, omega arith),
-          (
-            (omega arith, omega arith),
-            (omega arith, attained-at w (4 * m) first (s .args .k) k (s .args .layers) K base goal k-is K-is (s .pre .1 .1 .1 .1 .1 .1)),
-          ),
-        ),
-      ),
-    ),
-  )
+  search-asks =
+      let attained = attained-at w (4 * m) first (s .args .k) k (s .args .layers) K base goal k-is K-is (s .pre .1 .1 .1 .1 .1 .1) in
+      (s .pre .0, (omega arith, (omega arith, ((omega arith, omega arith), ((omega arith, omega arith), (omega arith, attained))))))
 
   module _ (a b c : ℕ) (found : FirstCombination w (4 * m) first k K base goal a b c) where
     -- what the writing asks of the combination that is found

@@ -11,22 +11,9 @@ choose-branches-requires c κs =
     let b : tie.After-at2 = c .before in
     let s : tie.Start = b .before .before .before .before .before in
     let g = s .args in
-    let ok = s .pre .1 .0 in (
-      s .pre .0,
-      (
-        omega (arith, ok .few),
-        (
-          omega (arith, ok .pins),
-          (
-            (omega arith, omega arith),
-            (
-              (omega (arith, ok .start, ok .within), omega arith),
-              (omega arith, root-attained (g .w .now) (g .m) (g .layers) (g .goal) (b .before .before .at .result) (b .at2 .result) ok (omega arith) (omega arith)),
-            ),
-          ),
-        ),
-      ),
-    )
+    let ok = s .pre .1 .0 in
+    let attained = root-attained (g .w .now) (g .m) (g .layers) (g .goal) (b .before .before .at .result) (b .at2 .result) ok (omega arith) (omega arith) in
+    (s .pre .0, (omega (arith, ok .few), (omega (arith, ok .pins), ((omega arith, omega arith), ((omega (arith, ok .start, ok .within), omega arith), (omega arith, attained))))))
 
 returns : tie.Need-returns
 returns c =

@@ -58,27 +58,21 @@ module _ (P : ℕ → ℕ) (climbs : Climbs P) (top : ℕ) where
         go (inr p) (inl r) = inr (inl (omega arith))
         go (inl p) (inl r) = inr (inr (omega arith, omega arith))
 
+    here : (b x d : ℕ) → b ≡ x → b ≡ x + (d - d)
+    here b x d e = omega arith
+
+    over : (a d : ℕ) → a ≡ top → a + d < top → ⊥
+    over a d e h = omega arith
+
     up-hit : (n : ℕ) → UpHit n
     up-hit zero = go (which (top + (P 0 - P (0 - 1))) (g 0) (up 0) refl)
       where
-        here : (b x d : ℕ) → b ≡ x → b ≡ x + (d - d)
-        here b x d e = omega arith
-
-        over : (d : ℕ) → top + d < top → ⊥
-        over d h = omega arith
-
         go : (up 0 ≡ top) ⊎ ((up 0 ≡ g 0) ⊎ ((up 0 ≡ top + (P 0 - P (0 - 1))) × (top + (P 0 - P (0 - 1)) < top))) → UpHit 0
         go (inl e) = inl e
         go (inr (inl e)) = inr (0, omega arith, here (up 0) (g 0) (P 0) e)
-        go (inr (inr e)) = absurd (over (P 0 - P (0 - 1)) (e .1))
+        go (inr (inr e)) = absurd (over top (P 0 - P (0 - 1)) refl (e .1))
     up-hit (suc n) = go (up-hit n) (which (up n + rise n) (g (suc n)) (up (suc n)) (next n))
       where
-        here : (b x d : ℕ) → b ≡ x → b ≡ x + (d - d)
-        here b x d e = omega arith
-
-        over : (a d : ℕ) → a ≡ top → a + d < top → ⊥
-        over a d e h = omega arith
-
         step : (a b x y z u : ℕ) → a ≡ x + (y - u) → u ≤ y → y ≤ z → b ≡ a + (z - y) → b ≡ x + (z - u)
         step a b x y z u p q r s = omega arith
 
@@ -139,8 +133,10 @@ module _ (P : ℕ → ℕ) (climbs : Climbs P) (top : ℕ) where
     from-up : (t : ℕ) → l ≤ t → t < K → v ≤ up g t + (P t - P l)
     from-up t p q = subst (λ (x : ℕ). v ≤ up g t + (P t - P x)) back (down-low (up g) K (λ x y. up-top g x) (K - l) t (omega arith) (omega arith) q)
 
-    both-low : (t : ℕ) → t < K → v ≤ g t + apart P t l
-    both-low t q = go (lt-or-ge l t)
+    -- no layer costs less
+    pub swept-low : (t : ℕ) → t < K → swept P top g K l ≤ g t + apart P t l
+    unfolding swept
+    swept-low t q = go (lt-or-ge l t)
       where
         join : (x y c a b d : ℕ) → x ≤ y + b → y ≤ c + a → a + b ≤ d → x ≤ c + d
         join x y c a b d h k j = omega arith
@@ -149,11 +145,14 @@ module _ (P : ℕ → ℕ) (climbs : Climbs P) (top : ℕ) where
         go (inl p) = join v (up g t) (g t) (P t - P t) (P t - P l) (apart P t l) (from-up t (omega arith) q) (up-low g t t (omega arith)) (omega arith)
         go (inr p) = join v (up g l) (g t) (P l - P t) (P l - P l) (apart P t l) (from-up l (omega arith) inside) (up-low g l t p) (omega arith)
 
-    both-top : v ≤ top
-    both-top = let h = from-up l (omega arith) inside in let k = up-top g l in omega (arith, h, k)
+    pub swept-top : swept P top g K l ≤ top
+    unfolding swept
+    swept-top = let h = from-up l (omega arith) inside in let k = up-top g l in omega (arith, h, k)
 
-    both-hit : v < top → (t : ℕ) × (t < K) × (g t + apart P t l ≡ v)
-    both-hit h = go (subst (λ (x : ℕ). (v ≡ top) ⊎ ((t : ℕ) × (x ≤ t) × (t < K) × (v ≡ up g t + (P t - P x)))) back (down-hit (up g) K (λ x y. up-top g x) (K - l) (omega arith)))
+    -- and one costs just that
+    pub swept-hit : swept P top g K l < top → (t : ℕ) × (t < K) × (g t + apart P t l ≡ swept P top g K l)
+    unfolding swept
+    swept-hit h = go (subst (λ (x : ℕ). (v ≡ top) ⊎ ((t : ℕ) × (x ≤ t) × (t < K) × (v ≡ up g t + (P t - P x)))) back (down-hit (up g) K (λ x y. up-top g x) (K - l) (omega arith)))
       where
         Hit : Type 0
         Hit = (t : ℕ) × (t < K) × (g t + apart P t l ≡ v)
@@ -164,24 +163,11 @@ module _ (P : ℕ → ℕ) (climbs : Climbs P) (top : ℕ) where
         last : (t : ℕ) → l ≤ t → t < K → v ≡ up g t + (P t - P l) → (up g t ≡ top) ⊎ ((t′ : ℕ) × (t′ ≤ t) × (up g t ≡ g t′ + (P t - P t′))) → Hit
         last t p q e (inl f) = absurd (omega (arith, e, f, h))
         last t p q e (inr (t′, p′, f)) =
-            (t′, omega arith, join v (up g t) (P t) (P t′) (P l) (g t′) (climbs l t p) (climbs t′ t p′) e f (both-low t′ (omega arith)))
+            (t′, omega arith, join v (up g t) (P t) (P t′) (P l) (g t′) (climbs l t p) (climbs t′ t p′) e f (swept-low t′ (omega arith)))
 
         go : (v ≡ top) ⊎ ((t : ℕ) × (l ≤ t) × (t < K) × (v ≡ up g t + (P t - P l))) → Hit
         go (inl e) = absurd (omega (arith, e, h))
         go (inr (t, p, q, e)) = last t p q e (up-hit g t)
-
-    -- as the definitions name it
-    pub swept-low : (t : ℕ) → t < K → swept P top g K l ≤ g t + apart P t l
-    unfolding swept
-    swept-low = both-low
-
-    pub swept-top : swept P top g K l ≤ top
-    unfolding swept
-    swept-top = both-top
-
-    pub swept-hit : swept P top g K l < top → (t : ℕ) × (t < K) × (g t + apart P t l ≡ swept P top g K l)
-    unfolding swept
-    swept-hit = both-hit
 
 -- costs that agree below K
 module _ (P : ℕ → ℕ) (top : ℕ) (g h : ℕ → ℕ) (K : ℕ) (e : (t : ℕ) → t < K → g t ≡ h t) where
