@@ -1,4 +1,4 @@
-// Lines with one number, and lines of capacities.
+// The reader, by which every line of the text is opened; lines with one number, and lines of capacities.
 use text::Cursor;
 use text::Fault;
 use text::Numeral;
@@ -147,7 +147,7 @@ pub fn number_line<'a>(s: &'a [u8], c: Cursor, key: &'a [u8]) -> Field
 }
 
 // The number of a line, where it is from `low` to `high`.
-pub fn in_range(f: Field, low: usize, high: usize) -> Field
+fn in_range(f: Field, low: usize, high: usize) -> Field
     ensures { λ r. ⌜ r ≡ inRange low high f ⌝ }
 {
     match f {

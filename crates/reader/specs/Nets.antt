@@ -22,7 +22,6 @@ use Rattle.text.specs.Refusals.{placeOf}
 use Rattle.text.specs.declared.Cursor.{Cursor}
 use Rattle.theory.specs.links.Nets.{NetOk, EachNet}
 use Rattle.theory.specs.links.Stretches.{offset}
-use Rattle.union.specs.Links.{Older as Older}
 use Rattle.reader.specs.Rows.{RowAt}
 use Rattle.reader.specs.declared.NetRead.{NetRead}
 use Rattle.reader.specs.declared.NetRead.the-variants.{Net as read, Refused}

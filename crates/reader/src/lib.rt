@@ -49,6 +49,12 @@ pub enum PrintRoom {
     Bytes(usize),
 }
 
+// What is tested once the text is whole: the length of the answer list, and the print buffer.
+pub struct Lists {
+    pub answer: usize,
+    pub print: PrintRoom,
+}
+
 // An accepted job: what its head says.
 pub enum JobRead {
     Job(Head),
@@ -189,23 +195,17 @@ fn print_fits(n: usize, entries: usize, print: PrintRoom) -> bool
 }
 
 // The end of the text, and whether what is lent is long enough.
-fn read_end(
-    s: &[u8],
-    c: Cursor,
-    n: usize,
-    entries: usize,
-    answer: usize,
-    print: PrintRoom,
-) -> Listed
+fn read_end(s: &[u8], c: Cursor, n: usize, entries: usize, lists: Lists) -> Listed
     requires { ⌜ (c .at ≤ length (now s)) × (c .line < 1048576) × (n ≤ mostNets) × (entries ≤ 16777216) ⌝ }
-    ensures { λ r. ⌜ turnTold (now (s .entry)) r ≡ endIn n entries answer (printLent print) (placeOf (now (s .entry)) c) ⌝ }
+    ensures { λ r. ⌜ turnTold (now (s .entry)) r ≡ endIn n entries (lists .answer) (printLent (lists .print)) (placeOf (now (s .entry)) c) ⌝ }
 {
     if c.at < s.len() {
         return Listed::Refused(Refusal::Line(Fault::Form, c.line + 1));
     }
-    if answer < entries {
+    if lists.answer < entries {
         return Listed::Refused(Refusal::Short(c.line));
     }
+    let print = lists.print;
     if !print_fits(n, entries, print) {
         return Listed::Refused(Refusal::Short(c.line));
     }
@@ -219,18 +219,17 @@ fn read_rest(
     c: Cursor,
     w: &mut [u32],
     table: &mut [u32],
-    answer: usize,
-    print: PrintRoom,
+    lists: Lists,
 ) -> JobRead
     requires { ⌜ Shaped (h .shape) ⌝ }
     requires { ⌜ (c .at ≤ length (now s)) × (c .line < 1000) × (length (now s) ≤ 1048576) × (h .nets ≤ mostNets) ⌝ }
     requires { ⌜ NetsReady (h .shape) (now w) (now table) ⌝ }
-    ensures { λ r. ⌜ RestTold (now (s .entry)) h answer print (placeOf (now (s .entry)) c) (now (w .entry)) (now (w .exit)) (now (table .exit)) r ⌝ }
+    ensures { λ r. ⌜ RestTold (now (s .entry)) h (lists .answer) (lists .print) (placeOf (now (s .entry)) c) (now (w .entry)) (now (w .exit)) (now (table .exit)) r ⌝ }
     ensures { λ _. ⌜ (length (now (w .exit)) ≡ length (now (w .entry))) × (length (now (table .exit)) ≡ length (now (table .entry))) ⌝ }
 {
     match read_nets(s, c, w, h.shape, table, h.nets) {
         NetsRead::Refused(r) => JobRead::Refused(r),
-        NetsRead::Nets(d, entries) => match read_end(s, d, h.nets, entries, answer, print) {
+        NetsRead::Nets(d, entries) => match read_end(s, d, h.nets, entries, lists) {
             Listed::Refused(r) => JobRead::Refused(r),
             Listed::Next(_) => JobRead::Job(h),
         },
@@ -273,7 +272,7 @@ pub fn read_job(
         HeadRead::Refused(r) => JobRead::Refused(r),
         HeadRead::Head(h, c) => {
             clear_counts(w, h.shape);
-            read_rest(s, h, c, w, table, answer, print)
+            read_rest(s, h, c, w, table, Lists { answer, print })
         }
     }
 }

@@ -35,7 +35,7 @@ returns c =
     let y = c .before .before .before .before .before .before .before .read-nets in
     let f = c .before .r .given in
     let told = subst (λ (v : NetsRead). NetsTold (x .s .now) (x .h .shape) (x .h .nets) (x .c .line + 3 * x .h .nets) (x .w .now) (y .last .1 .1 .0) (y .last .1 .1 .1 .1 .0) (nets (sizesOf (x .h .shape)) 1 (x .h .nets) (placeOf (x .s .now) (x .c))) v) (f .1) (y .ensures .0) in
-    (rest-no-nets (x .s .now) (x .h) (x .answer) (x .print) (placeOf (x .s .now) (x .c)) (x .w .now) (f .0 .0) told, y .ensures .1)
+    (rest-no-nets (x .s .now) (x .h) (x .lists .answer) (x .lists .print) (placeOf (x .s .now) (x .c)) (x .w .now) (f .0 .0) told, y .ensures .1)
 
 returns-2 : tie.Need-returns-2
 returns-2 c =
@@ -46,7 +46,7 @@ returns-2 c =
     let e = c .before .before .before .read-end in
     let k = nets-found (x .s .now) (x .h) (x .h .nets) (x .c .line + 3 * x .h .nets) (x .w .now) (y .last .1 .1 .0) (y .last .1 .1 .1 .1 .0) _ (y .result) (f .0 .0) (f .0 .1 .0) (f .1) (y .ensures .0) in
     let q = c .before .r2 .given in (
-      rest-no-end (x .s .now) (x .h) (x .answer) (x .print) (placeOf (x .s .now) (x .c)) (x .w .now) (x .c .line + 3 * x .h .nets) (y .last .1 .1 .0) (y .last .1 .1 .1 .1 .0) (f .0 .0) (f .0 .1 .0) k (e .result) (e .ensures) (q .0 .0) (q .1),
+      rest-no-end (x .s .now) (x .h) (x .lists .answer) (x .lists .print) (placeOf (x .s .now) (x .c)) (x .w .now) (x .c .line + 3 * x .h .nets) (y .last .1 .1 .0) (y .last .1 .1 .1 .1 .0) (f .0 .0) (f .0 .1 .0) k (e .result) (e .ensures) (q .0 .0) (q .1),
       y .ensures .1,
     )
 
@@ -61,7 +61,7 @@ returns-3 c =
     let q = c .enum-told .given in (
       (
         refl,
-        rest-found (x .s .now) (x .h) (x .answer) (x .print) (placeOf (x .s .now) (x .c)) (x .w .now) (x .c .line + 3 * x .h .nets) (y .last .1 .1 .0) (y .last .1 .1 .1 .1 .0) (f .0 .0) (f .0 .1 .0) k (e .result) (e .ensures) (q .0 .0) (q .1),
+        rest-found (x .s .now) (x .h) (x .lists .answer) (x .lists .print) (placeOf (x .s .now) (x .c)) (x .w .now) (x .c .line + 3 * x .h .nets) (y .last .1 .1 .0) (y .last .1 .1 .1 .1 .0) (f .0 .0) (f .0 .1 .0) k (e .result) (e .ensures) (q .0 .0) (q .1),
       ),
       y .ensures .1,
     )
