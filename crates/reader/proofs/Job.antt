@@ -63,7 +63,7 @@ capacities-same : (g : Shape) (w v : List ℕ) → ((i : ℕ) → i < loadsAt g 
 capacities-same g w v h = columns-same (g .k) (g .e) w v (λ i b. h i (omega (arith, mul-comm (g .e) (g .k)))) 0 (g .k) (omega arith)
 
 shape-is : (g : Shape) → Shaped g → g ≡ shapeOf (g .w) (g .h) (g .k)
-shape-is g shaped i = record { w = g .w; h = g .h; k = g .k; t = shaped .t-is i; east = shaped .east-is i; e = shaped .e-is i }
+shape-is g shaped i = record { w = g .w; h = g .h; k = g .k; t = shaped .t-is i; m = (shaped .m-is ∙ shaped .t-is) i; east = shaped .east-is i; e = shaped .e-is i }
 
 module _ (s : List ℕ) (order : ℕ) (w : List ℕ) (w₁ : List ℕ) (r : HeadRead)
     (told : headTold s w₁ r ≡ headIn (length s) (length w) order (record { line = 0; rest = s })) (answer : ℕ) (print : PrintRoom) where
@@ -89,7 +89,7 @@ module _ (s : List ℕ) (order : ℕ) (w : List ℕ) (w₁ : List ℕ) (r : Head
         rw (sym (head-holds .shaped .t-is), sym (head-holds .shaped .e-is), u)
 
     pub areas-fit : areasEnd (h .shape) ≤ length w₁
-    areas-fit = omega (arith, need-is, head-holds .working)
+    areas-fit = omega (arith, need-is, head-holds .working, head-holds .shaped .m-is)
 
     read-head-on : read (lentBy (length w) order answer print) s ≡ restIn (lentBy (length w) order answer print) (headJob h w₁) (placeOf s c)
     read-head-on = read-by lent s w₁ r told ∙ ap (λ (x : HeadRead). next (headTold s w₁ x) (restIn lent)) e
