@@ -55,7 +55,7 @@ pub fn expected(grid: Grid, net: &Net, steps: &[Step]) -> Walked {
 /// Where the walk stands in the working numbers (crate `layout`: `stops_at`, `above_at`, `engine_at`).
 fn areas(job: &Job) -> [usize; 4] {
     let (edges, tiles) = (job.grid.edges(), job.grid.tiles());
-    let stops = 2 * job.layers * edges + 2 * edges + 5 * tiles;
+    let stops = 2 * job.layers * edges + 2 * edges + 6 * tiles;
     [stops, stops + tiles, stops + 2 * tiles, stops + 3 * tiles]
 }
 
