@@ -13,26 +13,25 @@ use Rattle.layout.specs.Areas.{demandAt, tilesAt, linksAt, chosenAt}
 use Rattle.layout.specs.Parts.{part-long, part-outside, Outside, set-outside}
 use Rattle.layout.specs.Shapes.{Shaped}
 use Rattle.layout.specs.declared.Shape.{Shape}
-use Rattle.marks.specs.Marks.{marked, touched, mark, Older, fits-older}
+use Rattle.marks.specs.Marks.{marked, touched, mark}
 use Rattle.model.specs.Job.{Pin}
-use Rattle.model.specs.Lists.{twice, has, bit, In}
+use Rattle.model.specs.Lists.{has, bit, In}
 use Rattle.model.specs.Read.{Triple, edgeInside}
 use Rattle.model.specs.Tree.{ring}
 use Rattle.theory.specs.congestion.Base.{upFrom, length-upFrom, in-upFrom}
 use Rattle.theory.specs.congestion.Sums.{same-cases, same-refl, sum-bound, sum-part, lt-or-ge}
 use Rattle.theory.specs.links.Counted.{Counted, counted-marked}
 use Rattle.theory.specs.links.Reach.{loOf, hiOf}
-use Rattle.theory.specs.links.Tests.{twice-once}
 use Rattle.theory.specs.walk.Parts.{rootMark, touches-test}
 use Rattle.theory.specs.walk.Stops.{occurs-append}
 use Rattle.theory.specs.walk.Union.{topOf}
-use Rattle.union.specs.Links.{Merged, links-older}
+use Rattle.union.specs.Links.{Merged}
 use Rattle.union.specs.Parts.{merged-edge}
 use Rattle.union.specs.Rings.{merged-ring}
 use Rattle.ways.specs.Ends.{firstMark, endsAfter, first-mark, ends-forth, start-touches, ends-touch, ends-fit}
 use Rattle.ways.specs.Entry.{startOf, edgeOf, Placed, placed, same-edge}
 use Rattle.edges.specs.Lists.{has-snoc}
-use Rattle.edges.specs.Reading.{Reading, Few, tilesOf, linksOf}
+use Rattle.edges.specs.Reading.{Reading, tilesOf, linksOf}
 
 -- ---- how many parts there can be
 
@@ -193,13 +192,3 @@ reading-here g n ps parts w₀ w r = record {
   ways = r .ways;
   counted = r .counted;
 }
-
--- after a net every stamp is earlier than the next net's
-pub reading-older : (g : Shape) (n : ℕ) (ps : List Pin) (es : List ℕ) (parts : ℕ) (w₀ w : List ℕ) → Reading g n ps es parts w₀ w
-    → Older (n + 1) (tilesOf g w) × Older (n + 1) (linksOf g w)
-reading-older g n ps es parts w₀ w r = (fits-older n (tilesOf g w) (r .fits), links-older n (linksOf g w) (r .links))
-
--- no edge has more nets than were read
-pub reading-few : (g : Shape) (n : ℕ) (ps : List Pin) (es : List ℕ) (parts : ℕ) (w₀ w : List ℕ) → Reading g n ps es parts w₀ w → twice eqb es ≡ false → Few g n w₀
-    → Few g (n + 1) w
-reading-few g n ps es parts w₀ w r once few e h = omega (arith, r .demand e h, twice-once es once e, few e h)

@@ -2,13 +2,13 @@
 -- Assumes nothing.
 use mathlib.Core.Path.{_≡_, refl, sym, ap, _∙_}
 use mathlib.Core.List.{List, [], _∷_, _++_}
-use Prim.Native.Nat.{ℕ, zero, suc, _+_, _-_, _*_, _≤_, _<_}
+use Prim.Native.Nat.{ℕ, zero, suc, _+_, _*_, _≤_, _<_}
 use native.Mathlib.Nat.{suc-mul, zero-mul, add-zero, mul-comm, mul-le-mul-right}
 use native.Mathlib.Decide.{decLt}
 use native.Mathlib.Omega.{arith}
 use lib.ListN.{length, getD, set, drop, length-set}
 use lib.Seq.{getD-set-same, getD-set-other, drop-set-lt}
-use Rattle.theory.specs.links.Reading.{CapsOk, EachCaps}
+use Rattle.theory.specs.links.Reading.{EachCaps}
 use Rattle.lines.specs.Spread.{spread}
 use Rattle.head.specs.Capacities.{column, columns, spreadAll}
 
@@ -73,10 +73,6 @@ module _ (k : ℕ) where
       rw (spread-other w b vs a (λ j e. h 0 j (omega (arith, zero-mul k))), column-apart w b vs (a + k) n (λ i j e. h (suc i) j (omega (arith, suc-mul i k))))
 
   -- ---- all lists
-
-  pub all-length : (w : List ℕ) (l : ℕ) (cs : List (List ℕ)) → length (spreadAll k w l cs) ≡ length w
-  all-length w l [] = refl
-  all-length w l (c ∷ cs) = all-length (spread k w l c) (suc l) cs ∙ spread-length w l c
 
   -- the lists from l on leave the columns below l
   column-all : (w : List ℕ) (l : ℕ) (cs : List (List ℕ)) (a n : ℕ) → a < l → l + length cs ≤ k → column k (spreadAll k w l cs) a n ≡ column k w a n

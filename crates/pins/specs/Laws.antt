@@ -1,20 +1,20 @@
 -- What the marks of a list of pins say.
 -- Assumes nothing.
-use mathlib.Core.Bool.{Bool, true, false, _&&_, _||_, not, cond}
-use mathlib.Core.List.{List, [], _∷_, map}
-use mathlib.Core.Path.{_≡_, refl, sym, ap, _∙_}
-use Prim.Native.Nat.{ℕ, zero, suc, _+_, _-_, _≤_, _<_}
+use mathlib.Core.Bool.{Bool, true, false, _&&_, _||_, cond}
+use mathlib.Core.List.{List, [], _∷_}
+use mathlib.Core.Path.{_≡_, refl, ap, _∙_}
+use Prim.Native.Nat.{ℕ, _-_, _≤_, _<_}
 use native.Mathlib.Decide.{ℕ-discrete}
 use native.Mathlib.Omega.{arith}
 use lib.Dec.{eqb}
-use lib.ListN.{length, getD}
+use lib.ListN.{length}
 use borrow.Author.Tests.{eq-eqb, ne-eqb}
-use Rattle.marks.specs.Marks.{bitsAt, marked, touched, mark, Older, mark-has, mark-touches, mark-fits, mark-long, none-marked}
-use Rattle.marks.specs.Words.{Fits, bitOf}
+use Rattle.marks.specs.Marks.{marked, mark, Older, mark-has, mark-fits, mark-long, none-marked}
+use Rattle.marks.specs.Words.{Fits}
 use Rattle.model.specs.Job.{Pin}
 use Rattle.model.specs.Lists.{any, twice}
 use Rattle.model.specs.Read.{samePin}
-use Rattle.pins.specs.Pins.{pinMarked, markPin, markPins, markedTwice, newTiles}
+use Rattle.pins.specs.Pins.{pinMarked, markPin, markPins, markedTwice}
 
 -- pins that a list of words has room for, on layers 1 to 8
 abbrev pub Inside : ℕ → Pin → Type 0
@@ -38,10 +38,6 @@ module _ (n : ℕ) where
   pin-then a p q h k e =
       mark-has n a (p .tile) (p .layer - 1) (h .0) (omega arith) e (q .tile) (q .layer - 1)
       ∙ ap (λ (b : Bool). (eqb (p .tile) (q .tile) && b) || pinMarked n a q) (same-layer (p .layer) (q .layer) (h .1) k)
-
-  pub pins-long : (a : List ℕ) (ps : List Pin) → length (markPins n a ps) ≡ length a
-  pins-long a [] = refl
-  pins-long a (p ∷ ps) = pins-long (markPin n a p) ps ∙ mark-long n a (p .tile) (p .layer - 1)
 
   pub still-inside : (a : List ℕ) (p : Pin) (ps : List Pin) → AllInside (length a) ps → AllInside (length (markPin n a p)) ps
   still-inside a p ps k = rw (mark-long n a (p .tile) (p .layer - 1)) k
@@ -124,22 +120,6 @@ module _ (n : ℕ) where
       none : (b : Bool) → ((b && false) || marked n a t i) ≡ marked n a t i
       none true = refl
       none false = refl
-
-  -- the tiles that have a mark are those that had one, and those of the list
-  pub pins-touch : (a : List ℕ) (ps : List Pin) → AllInside (length a) ps → markedTwice n a ps ≡ false → (t : ℕ)
-      → touched n (markPins n a ps) t ≡ (any (λ p. eqb (p .tile) t) ps || touched n a t)
-  pins-touch a [] k e t = refl
-  pins-touch a (p ∷ ps) k e t =
-      let f = first-new a p ps e in
-      pins-touch (markPin n a p) ps (still-inside a p ps (k .1)) (f .1) t
-      ∙ rw (mark-touches n a (p .tile) (p .layer - 1) (k .0 .0) (omega (arith, k .0)) (f .0) t)
-      (order (any (λ r. eqb (r .tile) t) ps) (eqb (p .tile) t) (touched n a t))
-    where
-      order : (x y z : Bool) → (x || (y || z)) ≡ (cond y true x || z)
-      order true true z = refl
-      order true false z = refl
-      order false true z = refl
-      order false false z = refl
 
   pub pins-fit : (a : List ℕ) (ps : List Pin) → AllInside (length a) ps → markedTwice n a ps ≡ false → Fits n a → Fits n (markPins n a ps)
   pins-fit a [] k e h = h

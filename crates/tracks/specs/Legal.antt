@@ -19,10 +19,10 @@ use Rattle.model.specs.Overflow.{flatOverflow, limit}
 use Rattle.model.specs.Plan.{placed, legal}
 use Rattle.net.specs.SoFar.{SoFarWith, SoFar}
 use Rattle.theory.specs.congestion.Base.{upFrom-once, in-upFrom}
-use Rattle.theory.specs.congestion.Edge.{Legal, put-same, sum-over-put, isLegal→, →isLegal}
+use Rattle.theory.specs.congestion.Edge.{put-same, sum-over-put, isLegal→, →isLegal}
 use Rattle.theory.specs.congestion.Sums.{in-keep}
 use Rattle.theory.specs.links.Tests.{is-true, test-eq}
-use Rattle.tracks.specs.Masks.{bitsUp, bits-up, bits-past, bits-few}
+use Rattle.tracks.specs.Masks.{bitsUp, bits-up, bits-few}
 
 -- by how much a layer may pass its capacity: the limit where the edge has overflow left, and else 0
 abbrev pub roomOf : ℕ → ℕ → ℕ
@@ -46,11 +46,6 @@ legalMask g w e m = bitsUp (openAt g w e m) 0 (g .k)
 pub mask-small : (g : Shape) (w : List ℕ) (e m : ℕ) → g .k ≤ 8 → legalMask g w e m < 256
 unfolding legalMask
 mask-small g w e m h = bits-few (openAt g w e m) 0 (g .k) h
-
--- there is no layer above K
-pub mask-past : (g : Shape) (w : List ℕ) (e m i : ℕ) → g .k ≤ i → bitOf (legalMask g w e m) i ≡ false
-unfolding legalMask
-mask-past g w e m i h = bits-past (openAt g w e m) 0 (g .k) i h
 
 -- ---- it is the definitions' test
 
@@ -112,9 +107,6 @@ module _ (g : Shape) (j : Job) (o : ℕ → ℕ) (x : ℕ → ℕ → ℕ) (w : 
   legal-bit =
       let z : 0 + (l - 1) ≡ l - 1 = omega arith in
       bits-up (openAt g w e m) 0 (g .k) (l - 1) (omega arith) ∙ ap (openAt g w e m) z ∙ open-legal
-
-  pub bit-legal : bitOf (legalMask g w e m) (l - 1) ≡ true → Legal (layersOf j e) (capacity j e) (x e) m (o e) l
-  bit-legal h = isLegal→ (layersOf j e) (capacity j e) (x e) m (o e) l (subst T (sym h ∙ legal-bit) tt)
 
 -- a layer is among the legal ones at a turn just where its bit is set
 pub legal-in : (g : Shape) (j : Job) (plan : List (List ℕ)) (w : List ℕ) → SoFar g j plan w → g .k ≡ j .layers → (e l : ℕ) → e < g .e → 1 ≤ l → l ≤ g .k

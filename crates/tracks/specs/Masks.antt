@@ -1,12 +1,12 @@
 -- Tests as the bits of a number.
 -- Assumes nothing.
 use mathlib.Core.Bool.{Bool, true, false}
-use mathlib.Core.Path.{_≡_, refl, ap, _∙_}
+use mathlib.Core.Path.{_≡_, ap, _∙_}
 use Prim.Native.Nat.{ℕ, zero, suc, _+_, _*_, _/_, _%_, _^_, _≤_, _<_}
 use native.Mathlib.Nat.{pow-suc, pow-le-pow-right}
 use native.Mathlib.Omega.{arith}
 use lib.Dec.{lit<}
-use Rattle.marks.specs.Words.{bitOf, bit-zero}
+use Rattle.marks.specs.Words.{bitOf}
 use Rattle.model.specs.Lists.{bit}
 
 -- bit i is f (a + i), for i below n
@@ -32,12 +32,6 @@ bits-up f a (suc n) zero h = let e : a ≡ a + 0 = omega arith in low (f a) (bit
 bits-up f a (suc n) (suc i) h =
     let e : suc a + i ≡ a + suc i = omega arith in
     ap (λ (m : ℕ). bitOf m i) (high (f a) (bitsUp f (suc a) n)) ∙ bits-up f (suc a) n i (omega arith) ∙ ap f e
-
--- the bits from n on are 0
-pub bits-past : (f : ℕ → Bool) (a n i : ℕ) → n ≤ i → bitOf (bitsUp f a n) i ≡ false
-bits-past f a zero i h = bit-zero i
-bits-past f a (suc n) zero h = absurd (omega arith)
-bits-past f a (suc n) (suc i) h = ap (λ (m : ℕ). bitOf m i) (high (f a) (bitsUp f (suc a) n)) ∙ bits-past f (suc a) n i (omega arith)
 
 bits-small : (f : ℕ → Bool) (a n : ℕ) → bitsUp f a n < 2 ^ n
 bits-small f a zero = omega arith

@@ -5,7 +5,7 @@ use mathlib.Core.Path.{_≡_}
 use mathlib.Core.List.{List, []}
 use mathlib.Core.Bool.{Bool, not, cond}
 use mathlib.Core.Logic.{_≢_}
-use Prim.Native.Nat.{ℕ, _+_, _*_, _/_, _%_, _≤_, _<_}
+use Prim.Native.Nat.{ℕ, _+_, _/_, _%_, _<_}
 use native.Mathlib.Omega.{arith}
 use lib.Dec.{eqb}
 use lib.ListN.{length, getD}
@@ -67,10 +67,3 @@ older-holds lo hi n a h = holds-own lo hi (parentIn n a) (older-own n a h)
 -- after a net its words are ready for the next
 pub links-older : (n : ℕ) (a : List ℕ) → Links n a → Older (n + 1) a
 links-older n a h = h .older
-
--- words that are all 0 are ready for the first net, whose stamp is 1
-pub older-clear : (a : List ℕ) → ((i : ℕ) → getD a i 0 ≡ 0) → Older 1 a
-older-clear a h i = omega (arith, h i)
-
-pub older-later : (n m : ℕ) (a : List ℕ) → Older n a → n ≤ m → Older m a
-older-later n m a h k i = omega (arith, h i)

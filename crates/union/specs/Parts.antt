@@ -5,24 +5,17 @@ use mathlib.Core.List.{List, [], _∷_, _++_}
 use mathlib.Core.Bool.{Bool}
 use Prim.Native.Nat.{ℕ, _+_, _<_}
 use Rattle.model.specs.Job.{Pin}
-use Rattle.model.specs.Lists.{In, bit}
+use Rattle.model.specs.Lists.{bit}
 use Rattle.theory.specs.walk.NetVias.{netTiles}
 use Rattle.theory.specs.walk.Parts.{Touches}
-use Rattle.theory.specs.links.Counted.{Counted, counted-start, counted-merge, counted-edge}
+use Rattle.theory.specs.links.Counted.{Counted, counted-start, counted-edge}
 use Rattle.marks.specs.Marks.{Older}
-use Rattle.union.specs.Links.{parentIn, Links, Merged, older-holds}
+use Rattle.union.specs.Links.{parentIn, Merged, older-holds}
 
 module _ (lo hi : ℕ → ℕ) (size n : ℕ) (a : List ℕ) where
   -- before the first entry of a net
   pub older-counted : (touched : ℕ → ℕ) → ((t : ℕ) → touched t ≡ 0) → Older n a → Counted lo hi size touched (parentIn n a) 0 [] []
   older-counted touched none h = counted-start lo hi size touched (parentIn n a) none (older-holds lo hi n a h)
-
-  -- the ends of an edge, both touched, are joined
-  pub merged-counted : (a′ : List ℕ) (e : ℕ) (r : Bool) → Merged n a (lo e) (hi e) a′ r
-      → (touched : ℕ → ℕ) (k k′ : ℕ) (ts es : List ℕ) → Counted lo hi size touched (parentIn n a) k ts es → In (lo e) ts → In (hi e) ts → k′ + bit r ≡ k
-      → Counted lo hi size touched (parentIn n a′) k′ ts (es ++ (e ∷ []))
-  merged-counted a′ e r m touched k k′ ts es c l u less =
-      counted-merge lo hi size touched (parentIn n a) (parentIn n a′) k k′ ts es e r c l u (m .links .falling) (m .roots) (m .apart) less
 
   -- an entry of the `edges` line: its ends are touched and joined
   pub merged-edge : (a′ : List ℕ) (e : ℕ) (r : Bool) → Merged n a (lo e) (hi e) a′ r

@@ -102,10 +102,6 @@ module _ (n : ℕ) (a : List ℕ) (here there d : ℕ) (here-in : here < length 
   unfolding endsAfter
   ends-are = rw new
 
-  pub ends-new : endsOf n a here there d ≡ New (firstMark n a here + firstMark n (mark n a here (8 + d)) there)
-  unfolding endsOf
-  ends-new = rw new
-
   ends-has : (u k : ℕ) → marked n (endsAfter n a here there d) u k ≡ ((eqb there u && eqb (10 + d) k) || ((eqb here u && eqb (8 + d) k) || marked n a u k))
   ends-has u k =
       ap (λ (l : List ℕ). marked n l u k) ends-are
@@ -143,11 +139,6 @@ module _ (n : ℕ) (a : List ℕ) (here there d : ℕ) (here-in : here < length 
 
   pub ends-fit : Fits n a → Fits n (endsAfter n a here there d)
   ends-fit f = rw ends-are (after-fits n (mark n a here (8 + d)) there (10 + d) room (omega arith) (mark-fits n a here (8 + d) here-in (omega arith) new f))
-
--- an edge that was marked changes nothing
-pub ends-twice : (n : ℕ) (a : List ℕ) (here there d : ℕ) → marked n a here (8 + d) ≡ true → (endsOf n a here there d ≡ Twice) × (endsAfter n a here there d ≡ a)
-unfolding endsOf endsAfter
-ends-twice n a here there d e = (rw e, rw e)
 
 -- what was found tells whether the edge was marked
 pub twice-marked : (n : ℕ) (a : List ℕ) (here there d : ℕ) → Twice ≡ endsOf n a here there d → marked n a here (8 + d) ≡ true

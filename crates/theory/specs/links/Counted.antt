@@ -5,7 +5,7 @@ use mathlib.Core.Path.{_≡_, refl, sym, ap, _∙_, subst}
 use mathlib.Core.List.{List, [], _∷_, _++_}
 use mathlib.Core.Bool.{Bool, not}
 use mathlib.Core.Logic.{⊎-elim, _↔_}
-use Prim.Native.Nat.{ℕ, _+_, _-_, _≤_, _<_, min}
+use Prim.Native.Nat.{ℕ, _+_, _-_, _<_, min}
 use native.Mathlib.Omega.{arith}
 use lib.Dec.{T, eqb, eqb→eq}
 use Rattle.model.specs.Job.{Pin}
@@ -13,7 +13,7 @@ use Rattle.model.specs.Tree.{joined}
 use Rattle.theory.specs.congestion.Sums.{bit, same, occurs, In, same-cases, same-refl, eqb-true, lt-or-ge, in-head, in-tail}
 use Rattle.theory.specs.walk.Joined.{Joined, relabel, ends, onto, onto-snoc, occurs-onto, joined-more, joined-all, all-joined}
 use Rattle.theory.specs.walk.Stops.{occurs-append}
-use Rattle.theory.specs.walk.NetVias.{pinTiles, netTiles, reached?, in-ends}
+use Rattle.theory.specs.walk.NetVias.{pinTiles, netTiles, reached?}
 use Rattle.theory.specs.walk.Union.{topOf, Falling, Holds, holds-step, holds-joined}
 use Rattle.theory.specs.walk.Parts.{parts, Marked, Touches, parts-start, parts-touch, parts-merge, parts-one, one-parts, marked-holds}
 use Rattle.theory.specs.links.Tests.{is-true, test-eq}
@@ -184,19 +184,3 @@ module _ (W H size : ℕ) where
           (λ t k.
           sym (holds-joined lo hi par (onto lo hi [] es) (c .holds) first t .1
           (joined-more lo hi es (onto lo hi [] es) (λ e i. omega (arith, occurs-onto lo hi e [] es)) (all t (omega (arith, c .marks t))))))
-
-  -- the same without the count at hand
-  pub parts-joined : (touched par : ℕ → ℕ) (p : Pin) (ps : List Pin) (es : List ℕ) → Holds lo hi par (onto lo hi [] es)
-      → ((t : ℕ) → touched t ≡ min 1 (occurs t (netTiles lo hi (p ∷ ps) es))) → ((t : ℕ) → In t (netTiles lo hi (p ∷ ps) es) → t < size)
-      → eqb (parts size touched (topOf par)) 1 ≡ joined W H (p ∷ ps) es
-  parts-joined touched par p ps es h marks inside = counted-joined touched par (parts size touched (topOf par)) p ps es record {
-    holds = h;
-    marks = marks;
-    inside = inside;
-    ends-in = λ e i.
-        let k = in-ends lo hi e es i in (
-          omega (arith, occurs-append (lo e) (pinTiles (p ∷ ps)) (ends lo hi es), k .0),
-          omega (arith, occurs-append (hi e) (pinTiles (p ∷ ps)) (ends lo hi es), k .1),
-        );
-    count = refl;
-  }

@@ -39,10 +39,6 @@ touches-test p q a h = record {
   others = λ t n. ap bit (h t ∙ ap (λ (b : Bool). b || p t) (eqb-false a t (λ e. n (sym e))));
 }
 
--- a tile that was touched before
-pub touches-again : (touched : ℕ → ℕ) (a : ℕ) → touched a ≡ 1 → Touches touched a touched
-touches-again touched a h = record { here = h; others = λ t n. refl }
-
 -- ---- one tile's mark
 
 mark-root : (touched root : ℕ → ℕ) (t : ℕ) → root t ≡ t → rootMark touched root t ≡ touched t
@@ -83,15 +79,6 @@ bit-cases touched t h = ⊎-elim (λ k. inl (omega arith)) (λ k. inr (omega ari
 
 -- ---- nothing is touched
 
-pub marked-start : (T : ℕ) (touched root : ℕ → ℕ) → ((t : ℕ) → touched t ≡ 0) → ((t : ℕ) → root t ≡ t) → Marked T touched root
-marked-start T touched root none own = record {
-  bits = λ t. omega (arith, none t);
-  inside = λ t k. absurd (omega (arith, none t));
-  alone = λ t k. own t;
-  within = λ t k. absurd (omega (arith, none t));
-  top = λ t. own (root t);
-}
-
 pub parts-start : (T : ℕ) (touched root : ℕ → ℕ) → ((t : ℕ) → touched t ≡ 0) → parts T touched root ≡ 0
 parts-start T touched root none = go (upFrom 0 T)
   where
@@ -102,26 +89,6 @@ parts-start T touched root none = go (upFrom 0 T)
 -- ---- a tile is touched
 
 module _ (T : ℕ) (touched touched′ root : ℕ → ℕ) (a : ℕ) (a-inside : a < T) (touches : Touches touched a touched′) (marked : Marked T touched root) where
-  pub marked-touch : Marked T touched′ root
-  marked-touch = record {
-    bits = λ t. ⊎-elim (λ s. omega (arith, ap touched′ (s .0), touches .here)) (λ s. omega (arith, touches .others t (s .0), marked .bits t)) (same-cases t a);
-    inside = λ t k. ⊎-elim (λ s. omega (arith, s .0)) (λ s. marked .inside t (sym (touches .others t (s .0)) ∙ k)) (same-cases t a);
-    alone = λ t k.
-        ⊎-elim
-        (λ s. absurd (omega (arith, ap touched′ (s .0), touches .here)))
-        (λ s. marked .alone t (sym (touches .others t (s .0)) ∙ k))
-        (same-cases t a);
-    within = λ t k. ⊎-elim (λ s. more (root t) (at-a t (s .0))) (λ s. more (root t) (inr (marked .within t (sym (touches .others t (s .0)) ∙ k)))) (same-cases t a);
-    top = marked .top;
-  }
-    where
-      more : (t : ℕ) → (t ≡ a) ⊎ (touched t ≡ 1) → touched′ t ≡ 1
-      more t (inl e) = ap touched′ e ∙ touches .here
-      more t (inr k) = ⊎-elim (λ s. ap touched′ (s .0) ∙ touches .here) (λ s. touches .others t (s .0) ∙ k) (same-cases t a)
-
-      at-a : (t : ℕ) → t ≡ a → (root t ≡ a) ⊎ (touched (root t) ≡ 1)
-      at-a t e = ⊎-elim (λ k. inr (marked .within t k)) (λ k. inl (marked .alone t k ∙ e)) (bit-cases touched t (marked .bits t))
-
   -- one part more where it was not touched
   pub parts-touch : parts T touched′ root + touched a ≡ parts T touched root + 1
   parts-touch = go (sum-change (rootMark touched root) (rootMark touched′ root) a (upFrom 0 T) (once T a a-inside) rest) (bit-cases touched a (marked .bits a))
@@ -168,26 +135,6 @@ module _ (T : ℕ) (touched root root′ : ℕ → ℕ) (x y : ℕ) (x-touched :
 
   leaves : (t : ℕ) → root t ≢ t → root′ t ≢ t
   leaves t n e = ⊎-elim (λ s. n (subst (λ (u : ℕ). root u ≡ u) (sym (s .1) ∙ e) (both-top .1))) (λ s. n (sym (s .1) ∙ e)) (moved t)
-
-  pub marked-merge : Marked T touched root′
-  marked-merge = record {
-    bits = marked .bits;
-    inside = marked .inside;
-    alone = λ t k. stays t (λ e. omega (arith, k, ap touched e, both-touched .0)) (marked .alone t k);
-    within = λ t k.
-        ⊎-elim
-        (λ s. ap touched (s .1) ∙ both-touched .1)
-        (λ s. ap touched (s .1) ∙ marked .within t k)
-        (moved t);
-    top = λ t.
-        ⊎-elim
-        (λ s. ap root′ (s .1) ∙ small-stays ∙ sym (s .1))
-        (λ s. ap root′ (s .1) ∙ stays (root t) (s .0) (marked .top t) ∙ sym (s .1))
-        (moved t);
-  }
-    where
-      small-stays : root′ small ≡ small
-      small-stays = ⊎-elim (λ s. s .1) (λ s. s .1 ∙ both-top .1) (moved small)
 
   -- one part less where there were two
   pub parts-merge : (r : Bool) → r ≡ not (eqb (root x) (root y)) → parts T touched root′ + bit r ≡ parts T touched root
