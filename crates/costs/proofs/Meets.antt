@@ -13,7 +13,7 @@ use Rattle.theory.specs.engine.Span.{span, Covers, covers-cons, span-set, span-
 use Rattle.theory.specs.engine.Sweeps.{apart}
 use Rattle.theory.specs.engine.Swept.{swept-top}
 use Rattle.theory.specs.engine.Meeting as any
-use Rattle.costs.specs.Mask.{withLayer, maskOf, spanOf, IsSet, set-none, set-with, mask-price}
+use Rattle.sets.specs.Mask.{withLayer, maskOf, spanOf, IsSet, set-none, set-with, mask-price}
 use Rattle.costs.specs.Rows.{illegalCost, rowAt, LeastCost}
 use Rattle.costs.specs.Combinations.{covers-none}
 use Rattle.costs.specs.Sweeps.{swept, met, pairMet, tripleMet}

@@ -16,7 +16,7 @@ use Rattle.theory.specs.engine.Span.{span, Climbs, covers-cons}
 use Rattle.theory.specs.engine.Interval.{leastIn}
 use Rattle.theory.specs.engine.Sweeps as any
 use Rattle.theory.specs.engine.Swept.{up-top, swept-top, down-same, swept-same}
-use Rattle.costs.specs.Mask.{has, withLayer, spanOf, IsSet, set-none, mask-price, with-small, span-le-7, top, bottom, no-layer, Ends, ends-of}
+use Rattle.sets.specs.Mask.{has, withLayer, spanOf, IsSet, set-none, mask-price, with-small, span-le-7, top, bottom, no-layer, Ends, ends-of}
 use Rattle.costs.specs.Rows.{illegalCost, Eight, LayerMask}
 use Rattle.costs.specs.Intervals.{leastOver, within, interval, leastEnd, around, Taken, PinEnds}
 use Rattle.costs.specs.Combinations.{covers-none}
@@ -42,14 +42,6 @@ eight-more v f s b x h e p = record { long = long-set v b x (p .long); at = λ t
 -- the loop is done
 pub eight-all : (v : List ℕ) (f : ℕ → ℕ) (s b K : ℕ) → K ≤ b → Eight v f s b → Eight v f s K
 eight-all v f s b K h p = record { long = p .long; at = λ t q r. p .at t q (omega arith) }
-
--- the same in a longer list: c has the numbers f up to b
-pub filled-more : (c : List ℕ) (f : ℕ → ℕ) (b x : ℕ) → b < length c → x ≡ f b → ((t : ℕ) → t < b → getD c t 0 ≡ f t) → (t : ℕ) → t < b + 1 → getD (set c b x) t 0 ≡ f t
-filled-more c f b x h e p t q = go (lt-or-ge t b)
-  where
-    go : (t < b) ⊎ (b ≤ t) → getD (set c b x) t 0 ≡ f t
-    go (inl k) = getD-set-other c b t x 0 (λ z. omega (arith, z)) ∙ p t k
-    go (inr k) = let i : t ≡ b = omega arith in rw i (getD-set-same c b x 0 h ∙ e)
 
 -- ---- filling downwards: v has the numbers f from b up to K, and below b those of v₀
 

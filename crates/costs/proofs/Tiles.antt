@@ -5,7 +5,7 @@ use mathlib.Core.List.{List}
 use Prim.Native.Nat.{ℕ, suc, _+_, _-_, _*_, _≤_, _<_}
 use native.Mathlib.Omega.{arith}
 use lib.ListN.{getD}
-use Rattle.costs.specs.Mask.{withLayer, spanOf}
+use Rattle.sets.specs.Mask.{withLayer, spanOf}
 use Rattle.costs.specs.Rows.{Eight, LeastCost, TileCosts, LayerMask}
 use Rattle.costs.specs.Intervals.{around, PinEnds}
 use Rattle.costs.specs.Sweeps.{swept, met, pairMet, tripleMet}

@@ -9,7 +9,7 @@ use lib.Dec.{T, leb}
 use lib.ListN.{getD, length}
 use Rattle.model.specs.Lists.{upFrom}
 use Rattle.theory.specs.engine.Interval.{leastIn}
-use Rattle.costs.specs.Mask.{has}
+use Rattle.sets.specs.Mask.{has}
 use Rattle.costs.specs.Rows.{illegalCost}
 
 -- the least cost of a branch, whose row stands from `at` on, on n layers from s on, and at most illegalCost

@@ -12,7 +12,7 @@ use lib.Seq.{getD-take, getD-drop, drop-drop}
 use Rattle.theory.specs.congestion.Sums.{lt-or-ge}
 use Rattle.theory.specs.engine.Table.{Agree, below-same}
 use Rattle.theory.specs.engine.Loops.{comb, Turn, TurnLeast}
-use Rattle.costs.specs.Mask.{withLayer}
+use Rattle.sets.specs.Mask.{withLayer}
 use Rattle.costs.specs.Rows.{illegalCost, rowAt, combinationCost, layersTried, LeastCost, RowEntry, LayerMask, Shape, RowsFrom}
 
 -- ---- the same numbers elsewhere

@@ -1,5 +1,3 @@
-pub mod Computed
-pub mod Mask
 pub mod Rows
 pub mod Kept
 pub mod Combinations

@@ -14,7 +14,7 @@ use lib.Dec.{T, leb, eqb}
 use lib.ListN.{getD, length, take, drop}
 use Rattle.theory.specs.engine.Branches.{below}
 use Rattle.theory.specs.engine.Loops.{comb, TurnLeast}
-use Rattle.costs.specs.Mask.{has, withLayer, maskOf, spanOf}
+use Rattle.sets.specs.Mask.{has, withLayer, maskOf, spanOf}
 
 -- the cost of an illegal layer: above the cost of any net
 abbrev pub illegalCost : ℕ

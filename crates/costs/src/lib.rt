@@ -18,75 +18,13 @@ ghost use lib.Dec.{leb, eqb};
 ghost use lib.ListN.{getD, length};
 ghost use Rattle.model.specs.Lists.{upFrom};
 ghost use Rattle.theory.specs.engine.Interval.{leastIn};
-ghost use Rattle.costs.specs.Mask.{withLayer, spanOf, top, bottom, Charted};
+ghost use Rattle.sets.specs.Mask.{withLayer, spanOf, Charted};
 ghost use Rattle.costs.specs.Rows.{illegalCost, LeastCost, Eight, TileCosts, RowPut, RowWritten, firstIn, branchesIn, pinsIn, legalIn, rootBranches, LayerMask, Shape, RowsFrom};
 ghost use Rattle.costs.specs.Intervals.{within, interval, Taken, around, PinEnds};
 ghost use Rattle.costs.specs.Sweeps.{sweptUp, sweptDown, swept, Small, met, pairMet, tripleMet};
 
 // The cost of an illegal layer, above the cost of any net.
 pub const ILLEGAL: u32 = 536870912;
-
-// ---- masks
-
-// The set with layer l.
-pub fn with_layer(mask: u32, l: usize) -> u32
-    requires { ⌜ (1 ≤ l) × (l ≤ 8) ⌝ }
-    requires { ⌜ mask < 256 ⌝ }
-    ensures { λ r. ⌜ r ≡ withLayer mask l ⌝ }
-    ensures { λ r. ⌜ r < 256 ⌝ }
-{
-    mask | (1u32 << ((l - 1) as u32))
-}
-
-// The lowest and the highest layer of a set that is not empty, counted from 0.
-fn lowest(mask: u32) -> u32
-    requires { ⌜ (1 ≤ mask) × (mask < 256) ⌝ }
-    ensures { λ r. ⌜ suc r ≡ bottom mask ⌝ }
-    ensures { λ r. ⌜ r < 8 ⌝ }
-{
-    u32::trailing_zeros(mask)
-}
-
-fn highest(mask: u32) -> u32
-    requires { ⌜ (1 ≤ mask) × (mask < 256) ⌝ }
-    ensures { λ r. ⌜ suc r ≡ top mask ⌝ }
-    ensures { λ r. ⌜ r < 8 ⌝ }
-{
-    31 - u32::leading_zeros(mask)
-}
-
-// The vias of a tile: highest minus lowest layer of its set, 0 of the empty one.
-fn set_cost(mask: u32) -> u32
-    requires { ⌜ mask < 256 ⌝ }
-    ensures { λ r. ⌜ r ≡ spanOf mask ⌝ }
-    ensures { λ r. ⌜ r ≤ 7 ⌝ }
-{
-    if mask == 0 {
-        return 0;
-    }
-    highest(mask) - lowest(mask)
-}
-
-// The vias of every set of layers, by mask. Filled once in a call and lent to all that ask for the vias of a set.
-pub fn chart() -> [u32; 256]
-    ensures { λ r. ⌜ Charted spanOf r ⌝ }
-{
-    let mut c = [0u32; 256];
-    for m in 0..256 {
-        c[m] = set_cost(m as u32);
-    }
-    c
-}
-
-// The vias of a set, from the lent chart.
-pub fn span(chart: &[u32; 256], mask: u32) -> u32
-    requires { ⌜ Charted spanOf (now chart) ⌝ }
-    requires { ⌜ mask < 256 ⌝ }
-    ensures { λ r. ⌜ r ≡ spanOf mask ⌝ }
-    ensures { λ r. ⌜ r ≤ 7 ⌝ }
-{
-    chart[mask as usize]
-}
 
 fn least_of(x: u32, y: u32) -> u32
     ensures { λ r. ⌜ r ≡ min x y ⌝ }
@@ -379,7 +317,7 @@ fn leaf_costs(chart: &[u32; 256], pins: u32) -> [u32; 8]
         return c;
     }
     for l in 0..8 {
-        c[l] = span(chart, with_layer(pins, l + 1));
+        c[l] = sets::span(chart, sets::with_layer(pins, l + 1));
     }
     c
 }
@@ -402,8 +340,8 @@ fn pin_ends(pins: u32, layers: usize) -> Bounds
         };
     }
     Bounds {
-        starts: lowest(pins) as usize + 1,
-        high: highest(pins) as usize,
+        starts: sets::lowest(pins) as usize + 1,
+        high: sets::highest(pins) as usize,
     }
 }
 

@@ -17,7 +17,7 @@ use Rattle.theory.specs.engine.Loops.{comb}
 use Rattle.theory.specs.engine.Places.{TableAt, kidsOf, aboveOf}
 use Rattle.theory.specs.links.Best.{costBy, cheapestInWalk, cheapest}
 use Rattle.theory.specs.links.Engine.{kidsAt, firstAt, pinsAt, viasAt, found-is-cheapest, table-cost}
-use Rattle.costs.specs.Mask.{withLayer, maskOf, has, IsSet}
+use Rattle.sets.specs.Mask.{withLayer, maskOf, has, IsSet}
 use Rattle.costs.specs.Rows.{illegalCost, rowAt, LeastCost, RowEntry, firstIn, branchesIn, pinsIn, legalIn, rootBranches, Shape, RowsFrom}
 use Rattle.engine.specs.Layers.{FirstCombination, FirstStands, layerIn, RootLeast, ChosenUpTo}
 use Rattle.engine.specs.Net.{Holds, Placed}

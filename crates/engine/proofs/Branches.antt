@@ -13,9 +13,9 @@ use lib.Dec.{T, eqb, eqb→eq, leb, leb→le, ltb, ltb→lt, lt→ltb}
 use lib.ListN.{getD}
 use Rattle.theory.specs.congestion.Sums.{eqb-true, eqb-false, lt-or-ge}
 use Rattle.theory.specs.engine.Loops.{Turn, Passed}
-use Rattle.costs.specs.Computed.{all}
-use Rattle.costs.specs.Computed as computed
-use Rattle.costs.specs.Mask.{withLayer, spanOf, with-small}
+use Rattle.sets.specs.Computed.{all}
+use Rattle.sets.specs.Computed as computed
+use Rattle.sets.specs.Mask.{withLayer, spanOf, with-small}
 use Rattle.costs.specs.Rows.{rowAt, combinationCost}
 use Rattle.engine.specs.Layers.{branchCost, branchMask}
 

@@ -12,7 +12,7 @@ use Rattle.theory.specs.congestion.Sums.{lt-or-ge}
 use Rattle.theory.specs.engine.Branches.{below}
 use Rattle.theory.specs.engine.Loops.{comb, Turn, HasTurn, FirstTurn, passed-start}
 use Rattle.theory.specs.engine.Table.{Agree}
-use Rattle.costs.specs.Mask.{withLayer}
+use Rattle.sets.specs.Mask.{withLayer}
 use Rattle.costs.specs.Rows.{illegalCost, rowAt, combinationCost, layersTried, LeastCost, firstIn, branchesIn, pinsIn, rootBranches, Shape, RowsFrom}
 use Rattle.engine.specs.Layers.{Attained, FirstCombination, FirstWritten, FirstStands, layerIn, Usable, RootLeast, RootReady, RootChosen, TileReady, TileChosen, ChosenUpTo}
 use Rattle.costs.specs.Kept.{cost-kept, least-kept, same-drop, same-take, tried-le}

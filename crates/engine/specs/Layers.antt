@@ -9,7 +9,7 @@ use lib.Dec.{ltb}
 use lib.ListN.{getD, length, take, drop}
 use lib.Seq.{sets, slice}
 use Rattle.theory.specs.engine.Loops.{comb, HasTurn, FirstTurn}
-use Rattle.costs.specs.Mask.{withLayer}
+use Rattle.sets.specs.Mask.{withLayer}
 use Rattle.costs.specs.Rows.{illegalCost, rowAt, combinationCost, layersTried, LeastCost, firstIn, branchesIn, pinsIn, rootBranches}
 
 -- what branch c of a tile's k branches, counted from 0, adds on layer l + 1: its cost, and its layer to the tile's set; nothing where there is no such branch

@@ -14,7 +14,7 @@ use Rattle.theory.specs.congestion.Dictionary.{Rising}
 use Rattle.theory.specs.links.Nets.{NetOk}
 use Rattle.theory.specs.links.Best.{costBy, cheapestInWalk, cheapest}
 use Rattle.theory.specs.links.Engine.{firstAt, pinsAt}
-use Rattle.costs.specs.Mask.{has, IsSet}
+use Rattle.sets.specs.Mask.{has, IsSet}
 
 -- What stands in the slice w, which has room for m tiles, before the net of job j takes its turn, where `allowed e` are the layers that edge e may have: n is
 -- the number of the net's tiles and K the number of layers. Tile i is the i-th stop of the walk, and the edge above tile i + 1 is the i-th edge of the walk.

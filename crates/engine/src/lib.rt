@@ -9,7 +9,7 @@ ghost use lib.ListN.{getD};
 ghost use lib.Seq.{sets};
 ghost use Rattle.model.specs.Job.{Job, Net};
 ghost use Rattle.theory.specs.engine.Loops.{comb};
-ghost use Rattle.costs.specs.Mask.{spanOf, Charted};
+ghost use Rattle.sets.specs.Mask.{spanOf, Charted};
 ghost use Rattle.costs.specs.Rows.{illegalCost, layersTried, Shape, RowsFrom};
 ghost use Rattle.engine.specs.Layers.{branchCost, branchMask, Attained, FirstCombination, FirstWritten, RootLeast, RootReady, RootChosen, TileReady, TileChosen, ChosenUpTo};
 ghost use Rattle.engine.specs.Net.{Holds, HoldsNet, Placed};
@@ -38,7 +38,7 @@ fn branch_mask(mask: u32, k: usize, c: usize, l: usize) -> u32
     ensures { λ r. ⌜ r < 256 ⌝ }
 {
     if c < k {
-        return costs::with_layer(mask, l + 1);
+        return sets::with_layer(mask, l + 1);
     }
     mask
 }
@@ -52,7 +52,7 @@ fn reaches(chart: &[u32; 256], goal: u32, cost: u32, mask: u32) -> bool
     if goal < cost {
         return false;
     }
-    costs::span(chart, mask) == goal - cost
+    sets::span(chart, mask) == goal - cost
 }
 
 // The cost and the vias of the set are over `goal`: so is every combination that adds to them.
@@ -64,7 +64,7 @@ fn exceeds(chart: &[u32; 256], goal: u32, cost: u32, mask: u32) -> bool
     if goal < cost {
         return true;
     }
-    goal - cost < costs::span(chart, mask)
+    goal - cost < sets::span(chart, mask)
 }
 
 // How many layers the loop of the j-th branch tries: one without a branch has one turn.
@@ -219,7 +219,7 @@ fn choose_below(w: &mut [u32], m: usize, i: usize, layers: usize, chart: &[u32; 
     }
     let l = costs::at(w, 3 * m + i);
     let goal = costs::at(w, 4 * m + 8 * i + (l - 1)) as u32;
-    let base = costs::with_layer(costs::at(w, m + i) as u32, l);
+    let base = sets::with_layer(costs::at(w, m + i) as u32, l);
     let t = Tile { first, base, goal };
     choose_branches(w, m, t, end - first, layers, chart);
 }

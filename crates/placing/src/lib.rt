@@ -4,7 +4,7 @@ use layout::Shape;
 ghost use mathlib.Core.Path.{_≡_};
 ghost use Prim.Native.Nat.{ℕ, _*_, _<_, _≤_};
 ghost use lib.ListN.{length, set};
-ghost use Rattle.costs.specs.Mask.{spanOf, Charted};
+ghost use Rattle.sets.specs.Mask.{spanOf, Charted};
 ghost use Rattle.flat.specs.Limited.{limitAt};
 ghost use Rattle.layout.specs.Areas.{areasEnd};
 ghost use Rattle.layout.specs.Shapes.{Shaped};

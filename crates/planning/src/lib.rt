@@ -118,7 +118,7 @@ fn place_nets(s: &[u8], h: Head, w: &mut [u32], table: &mut [u32], answer: &mut 
 {
     let flat = flat::overflows(w, h.shape);
     let limits = flat::limits_of(flat.most, h.shape.k);
-    let chart = costs::chart();
+    let chart = sets::chart();
     let vias = placing::place_all(s, w, h.shape, table, h.nets, limits, answer, &chart);
     Totals {
         vias,

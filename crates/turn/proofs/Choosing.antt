@@ -8,8 +8,8 @@ use native.Mathlib.Omega.{arith}
 use lib.Dec.{T}
 use lib.ListN.{length, getD, take, drop, length-drop}
 use lib.Seq.{slice, take-take, take-add, drop-at, drop-drop, length-take-le, ext-getD}
-use Rattle.costs.specs.Mask.{IsSet}
-use Rattle.costs.specs.Mask as mask
+use Rattle.sets.specs.Mask.{IsSet}
+use Rattle.sets.specs.Mask as mask
 use Rattle.engine.specs.Net.{Holds, HoldsNet, Placed}
 use Rattle.layout.specs.Areas.{tilesAt, listAt, aboveAt, engineAt, areasEnd}
 use Rattle.layout.specs.Parts.{part, part-at, part-long, part-outside, Outside, outside-wider, outside-then}

@@ -6,7 +6,7 @@ ghost use mathlib.Core.List.{List};
 ghost use mathlib.Core.Path.{_≡_};
 ghost use Prim.Native.Nat.{ℕ, _*_, _≤_};
 ghost use lib.ListN.{length};
-ghost use Rattle.costs.specs.Mask.{spanOf, Charted};
+ghost use Rattle.sets.specs.Mask.{spanOf, Charted};
 ghost use Rattle.engine.specs.Net.{Holds, HoldsNet, Placed};
 ghost use Rattle.flat.specs.Limited.{limitAt};
 ghost use Rattle.layout.specs.Areas.{chosenAt, engineAt, areasEnd};

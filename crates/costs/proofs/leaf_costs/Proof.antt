@@ -6,7 +6,7 @@ use native.Mathlib.Omega.{arith}
 use native.Mathlib.Numerals.{add-one}
 use borrow.Author.Needs.{needs}
 use lib.ListN.{getD-replicate}
-use Rattle.costs.specs.Mask.{withLayer, spanOf}
+use Rattle.sets.specs.Mask.{withLayer, spanOf}
 use Rattle.costs.specs.Rows.{Eight}
 use Rattle.costs.proofs.Steps.{eight-none, eight-more, eight-all, leaf-none}
 use Rattle.costs.proofs.leaf_costs.Statement.{statement}

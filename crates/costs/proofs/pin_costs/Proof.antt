@@ -3,7 +3,7 @@
 use Prim.Native.Nat.{suc, _+_}
 use borrow.Author.Needs.{needs}
 use lib.ListN.{getD}
-use Rattle.costs.specs.Mask.{withLayer, spanOf}
+use Rattle.sets.specs.Mask.{withLayer, spanOf}
 use Rattle.costs.specs.Sweeps.{swept}
 use Rattle.costs.proofs.Steps.{small-swept, small-leaf, pair-list}
 use Rattle.costs.proofs.pin_costs.Statement.{statement}

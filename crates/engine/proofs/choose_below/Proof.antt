@@ -2,7 +2,7 @@
 -- Assumes nothing.
 use mathlib.Core.Path.{_≡_}
 use Prim.Native.Nat.{ℕ, _-_, _*_}
-use Rattle.costs.specs.Mask.{withLayer}
+use Rattle.sets.specs.Mask.{withLayer}
 use Rattle.costs.specs.Rows.{rowAt, firstIn, branchesIn, pinsIn}
 use Rattle.engine.specs.Layers.{layerIn, TileReady}
 use Rattle.engine.proofs.Layers.{none-written, tile-attained, tile-chosen, base-is, goal-is}

@@ -8,7 +8,7 @@ use borrow.Author.Needs.{needs}
 use lib.ListN.{length}
 use lib.Seq.{sets}
 use Rattle.theory.specs.engine.Loops.{comb}
-use Rattle.costs.specs.Mask.{spanOf, Charted}
+use Rattle.sets.specs.Mask.{spanOf, Charted}
 use Rattle.engine.specs.Layers.{Attained, FirstCombination, FirstWritten}
 use Rattle.engine.proofs.Layers.{attained-at, layers-found, written-at}
 use Rattle.engine.proofs.choose_branches.Statement.{statement}

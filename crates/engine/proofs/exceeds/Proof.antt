@@ -4,7 +4,7 @@ use mathlib.Core.Path.{ap, _∙_}
 use Prim.Native.Nat.{ℕ, _-_}
 use borrow.Author.Needs.{needs}
 use lib.Dec.{ltb}
-use Rattle.costs.specs.Mask.{spanOf}
+use Rattle.sets.specs.Mask.{spanOf}
 use Rattle.engine.proofs.Branches.{exceeds-yes, exceeds-test}
 use Rattle.engine.proofs.exceeds.Statement.{statement}
 use Rattle.engine.proofs.exceeds.Tie as tie

@@ -7,7 +7,7 @@ use Prim.Native.Nat.{ℕ, _+_, _-_, _≤_}
 use native.Mathlib.Omega.{arith}
 use borrow.Author.Needs.{needs}
 use Rattle.theory.specs.engine.Loops.{HasTurn, Passed, passed-start, passed-turn, passed-inner, passed-middle, passed-all}
-use Rattle.costs.specs.Mask.{spanOf}
+use Rattle.sets.specs.Mask.{spanOf}
 use Rattle.costs.specs.Rows.{combinationCost}
 use Rattle.engine.proofs.Branches.{is-over, is-within, skip-first, skip-second, over-first, over-second, tested}
 use Rattle.engine.proofs.Layers.{attained-of, first-combination}

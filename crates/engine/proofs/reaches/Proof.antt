@@ -4,7 +4,7 @@ use mathlib.Core.Path.{ap, _∙_}
 use Prim.Native.Nat.{ℕ, _-_}
 use borrow.Author.Needs.{needs}
 use lib.Dec.{eqb}
-use Rattle.costs.specs.Mask.{spanOf}
+use Rattle.sets.specs.Mask.{spanOf}
 use Rattle.engine.proofs.Branches.{reaches-no, reaches-test}
 use Rattle.engine.proofs.reaches.Statement.{statement}
 use Rattle.engine.proofs.reaches.Tie as tie

@@ -14,7 +14,7 @@ use Rattle.model.specs.Lists.{upFrom, keep}
 use Rattle.theory.specs.congestion.Sums.{In, occurs, in-head, in-tail, same-cases, in-keep}
 use Rattle.theory.specs.congestion.Base.{in-upFrom}
 use Rattle.theory.specs.engine.Span.{Covers, span, span-ends, covers-cons, covers-append}
-use Rattle.costs.specs.Computed.{both, both-left, both-right, all, below}
+use Rattle.sets.specs.Computed.{both, both-left, both-right, all, below}
 
 -- layer l is in the set m
 abbrev pub has : ℕ → ℕ → Bool

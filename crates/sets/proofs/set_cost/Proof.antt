@@ -2,9 +2,9 @@
 -- Assumes nothing.
 use native.Mathlib.Omega.{arith}
 use borrow.Author.Needs.{needs}
-use Rattle.costs.specs.Mask.{span-none, span-code}
-use Rattle.costs.proofs.set_cost.Statement.{statement}
-use Rattle.costs.proofs.set_cost.Tie as tie
+use Rattle.sets.specs.Mask.{span-none, span-code}
+use Rattle.sets.proofs.set_cost.Statement.{statement}
+use Rattle.sets.proofs.set_cost.Tie as tie
 
 returns : tie.Need-returns
 returns c = span-none (c .before .args .mask) (c .if1 .taken)

@@ -1,10 +1,10 @@
 -- `with_layer` meets its contract.
 -- Assumes nothing.
 use Prim.Native.Nat.{_*_, _^_, _-_, _%_}
-use Rattle.costs.specs.Mask.{with-is, power-is}
+use Rattle.sets.specs.Mask.{with-is, power-is}
 use borrow.Author.Needs.{needs}
-use Rattle.costs.proofs.with_layer.Statement.{statement}
-use Rattle.costs.proofs.with_layer.Tie as tie
+use Rattle.sets.proofs.with_layer.Statement.{statement}
+use Rattle.sets.proofs.with_layer.Tie as tie
 
 pub with-layer-spec : {M : Type 1} → statement M
 with-layer-spec =

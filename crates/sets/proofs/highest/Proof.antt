@@ -1,9 +1,9 @@
 -- `highest` meets its contract.
 -- Assumes nothing.
 use native.Mathlib.Omega.{arith}
-use Rattle.costs.specs.Mask.{ends-of}
-use Rattle.costs.proofs.highest.Statement.{statement}
-use Rattle.costs.proofs.highest.Tie as tie
+use Rattle.sets.specs.Mask.{ends-of}
+use Rattle.sets.proofs.highest.Statement.{statement}
+use Rattle.sets.proofs.highest.Tie as tie
 
 sub-result : tie.Need-sub-result
 sub-result c = ends-of (c .args .mask) (c .pre .0) (c .pre .1) .lead

@@ -2,9 +2,9 @@
 -- Assumes nothing.
 use native.Mathlib.Omega.{arith}
 use borrow.Author.Needs.{needs}
-use Rattle.costs.specs.Mask.{span-le-7}
-use Rattle.costs.proofs.span.Statement.{statement}
-use Rattle.costs.proofs.span.Tie as tie
+use Rattle.sets.specs.Mask.{span-le-7}
+use Rattle.sets.proofs.span.Statement.{statement}
+use Rattle.sets.proofs.span.Tie as tie
 
 returns : tie.Need-returns
 returns c =

@@ -2,9 +2,9 @@
 -- Assumes nothing.
 use mathlib.Core.Path.{refl}
 use native.Mathlib.Omega.{arith}
-use Rattle.costs.specs.Mask.{ends-of}
-use Rattle.costs.proofs.lowest.Statement.{statement}
-use Rattle.costs.proofs.lowest.Tie as tie
+use Rattle.sets.specs.Mask.{ends-of}
+use Rattle.sets.proofs.lowest.Statement.{statement}
+use Rattle.sets.proofs.lowest.Tie as tie
 
 returns : tie.Need-returns
 returns c = let e = ends-of (c .args .mask) (c .pre .0) (c .pre .1) in (refl, omega (arith, e .lead, e .trail, e .high))
