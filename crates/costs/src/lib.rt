@@ -7,10 +7,11 @@
 //               and of all that hangs below it
 // The n tiles of the net come in walk order: tile 0 is the root, and the root's branches begin at 1. A mask has digit l - 1 for layer l.
 //
-// A tile's cost is not taken over combinations of its branches' layers. On eight layers, without pins or with one branch and pins on one layer, what hangs at it meets two by two: each meeting is a sum on
-// each layer and a sweep up and a sweep down, which add the vias. Otherwise the cost is taken over intervals of layers: the vias from one end to the other,
-// and for each branch its least cost within. Eight layers have functions of their own, whose loops have a fixed number of turns; fewer layers go through the
-// same leaves with the number of layers as it is. Inside these functions layers are counted from 0.
+// A tile's cost is not taken over combinations of its branches' layers. On eight layers, without pins or with one branch and pins on one layer, what
+// hangs at it meets two by two: each meeting is a sum on each layer and a sweep up and a sweep down, which add the vias. Otherwise the cost is taken over
+// intervals of layers: the vias from one end to the other, and for each branch its least cost within. Eight layers have functions of their own, whose
+// loops have a fixed number of turns; fewer layers go through the same leaves with the number of layers as it is. Inside these functions layers are
+// counted from 0.
 ghost use mathlib.Core.Path.{_≡_};
 ghost use mathlib.Core.Bool.{cond};
 ghost use Prim.Native.Nat.{ℕ, suc, _+_, _-_, _*_, _/_, _%_, _^_, _<_, _≤_, min};
