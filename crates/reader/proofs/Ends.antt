@@ -23,10 +23,10 @@ use Rattle.text.specs.declared.Cursor.{Cursor}
 use Rattle.text.specs.declared.Fault.the-variants.{Form}
 use Rattle.text.specs.declared.Refusal.{Refusal}
 use Rattle.text.specs.declared.Refusal.the-variants.{Line, Short}
-use Rattle.reader.specs.Nets.{turnTold, NetsFound, NetsTold}
+use Rattle.nets.specs.Nets.{turnTold, NetsFound, NetsTold}
 use Rattle.reader.specs.Whole.{printLent, lentBy, endIn, jobOf, rest-splits, RestFound}
-use Rattle.reader.specs.declared.NetsRead.{NetsRead}
-use Rattle.reader.specs.declared.NetsRead.the-variants.{Nets as allRead}
+use Rattle.nets.specs.declared.NetsRead.{NetsRead}
+use Rattle.nets.specs.declared.NetsRead.the-variants.{Nets as allRead}
 use Rattle.reader.specs.declared.PrintRoom.{PrintRoom}
 use Rattle.reader.specs.declared.PrintRoom.the-variants.{Bytes}
 

@@ -29,8 +29,8 @@ use Rattle.text.specs.Refusals.{placeOf}
 use Rattle.text.specs.declared.Cursor.{Cursor}
 use Rattle.text.specs.declared.Refusal.{Refusal}
 use Rattle.theory.specs.links.Stretches.{offset}
-use Rattle.reader.specs.Nets.{SoRead, CountsCleared, NetsReady, noNet, edgesOf}
-use Rattle.reader.specs.Rows.{RowAt}
+use Rattle.nets.specs.Nets.{SoRead, CountsCleared, NetsReady, noNet, edgesOf}
+use Rattle.nets.specs.Rows.{RowAt}
 use Rattle.reader.specs.Whole.{lentBy, jobOf, RestFound, RestTold, JobFound, JobTold}
 use Rattle.reader.specs.declared.JobRead.{JobRead}
 use Rattle.reader.specs.declared.JobRead.the-variants.{Job as accepted, Refused}

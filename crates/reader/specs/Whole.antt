@@ -16,7 +16,7 @@ use Rattle.lines.specs.Told.{refusedBy}
 use Rattle.model.specs.Job.{Net, Job, netCount, entryCount}
 use Rattle.model.specs.Read.{Place, Result, Reading, refused, found, next, _>>_, give, need, nets, Lent, printNeed, printFits, end, read}
 use Rattle.net.specs.Checked.{Checked}
-use Rattle.reader.specs.Nets.{SoRead}
+use Rattle.nets.specs.Nets.{SoRead}
 use Rattle.reader.specs.declared.PrintRoom.{PrintRoom}
 use Rattle.reader.specs.declared.PrintRoom.the-variants.{Absent, Bytes}
 use Rattle.reader.specs.declared.JobRead.{JobRead}

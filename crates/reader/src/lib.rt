@@ -1,47 +1,24 @@
 // The whole job text read once: a job or its one refusal. An accepted job leaves its capacities and flat demand in the working numbers, and the net table
 // has where each net's lines stand.
-use edges::Edges;
-use edges::EdgesRead;
 use head::Head;
 use head::HeadRead;
 use layout::Shape;
-use lines::Field;
 use lines::Listed;
-use pins::Pins;
-use pins::PinsRead;
+use nets::NetsRead;
 use text::Cursor;
 use text::Fault;
 use text::Refusal;
 ghost use mathlib.Core.Path.{_≡_};
-ghost use Prim.Native.Nat.{ℕ, _+_, _-_, _*_, _<_, _≤_};
-ghost use lib.ListN.{length, getD};
-ghost use Rattle.edges.specs.Reading.{tilesOf};
-ghost use Rattle.layout.specs.Areas.{tilesAt, chosenAt};
-ghost use Rattle.layout.specs.Parts.{Outside};
-ghost use Rattle.layout.specs.Shapes.{sizesOf, Shaped};
+ghost use Prim.Native.Nat.{_+_, _*_, _<_, _≤_};
+ghost use lib.ListN.{length};
+ghost use Rattle.layout.specs.Areas.{chosenAt};
+ghost use Rattle.layout.specs.Shapes.{Shaped};
 ghost use Rattle.layout.specs.Table.{tableSize};
-ghost use Rattle.lines.specs.Told.{listIn, mapped};
-ghost use Rattle.marks.specs.Marks.{Older};
-ghost use Rattle.marks.specs.Words.{mostStamp};
 ghost use Rattle.model.specs.Limits.{mostNets};
-ghost use Rattle.model.specs.Read.{netLine, pinsLine, netLines, nets, printNeed, printFits};
-ghost use Rattle.pins.specs.Pins.{pinsIn, pinsTold, pinsMarked};
+ghost use Rattle.model.specs.Read.{nets, printNeed, printFits};
 ghost use Rattle.text.specs.Refusals.{placeOf};
-ghost use Rattle.reader.specs.Rows.{rowPut};
-ghost use Rattle.reader.specs.Nets.{turnTold, bodyIn, NetReady, NetTold, PartCleared, CountsCleared, NetsReady, NetsTold};
+ghost use Rattle.nets.specs.Nets.{turnTold, PartCleared, CountsCleared, NetsReady};
 ghost use Rattle.reader.specs.Whole.{printLent, lentBy, endIn, RestTold, JobTold};
-
-// The lines of a net: the place after them, and the entries of its `edges` line.
-pub enum NetRead {
-    Net(Cursor, usize),
-    Refused(Refusal),
-}
-
-// The lines of all nets: the place after them, and the entries of all `edges` lines.
-pub enum NetsRead {
-    Nets(Cursor, usize),
-    Refused(Refusal),
-}
 
 // The print buffer that is lent: its length, or none for Plan.
 pub enum PrintRoom {
@@ -59,128 +36,6 @@ pub struct Lists {
 pub enum JobRead {
     Job(Head),
     Refused(Refusal),
-}
-
-// The line `net`: "1, 2, 3 and so on".
-fn net_line(s: &[u8], c: Cursor, turn: usize) -> Listed
-    requires { ⌜ (c .at ≤ length (now s)) × (c .line < 1048576) ⌝ }
-    ensures { λ r. ⌜ turnTold (now (s .entry)) r ≡ netLine turn (placeOf (now (s .entry)) c) ⌝ }
-    ensures { λ r. ⌜ listIn (length (now (s .entry))) (c .line + 1) r ⌝ }
-{
-    match lines::number_line(s, c, b"net=") {
-        Field::Refused(r) => Listed::Refused(r),
-        Field::Value(n, d) => {
-            if n != turn {
-                return Listed::Refused(Refusal::Line(Fault::Turn, d.line));
-            }
-            Listed::Next(d)
-        }
-    }
-}
-
-// The `pins` line, its pins marked by tile.
-fn net_pins(s: &[u8], c: Cursor, w: &mut [u32], g: Shape, stamp: u32) -> PinsRead
-    requires { ⌜ Shaped g ⌝ }
-    requires { ⌜ (chosenAt g ≤ length (now w)) × (stamp ≤ mostStamp) × (length (now s) ≤ 1048576) × (c .at ≤ length (now s)) × (c .line < 1048576) ⌝ }
-    requires { ⌜ Older stamp (tilesOf g (now w)) ⌝ }
-    ensures { λ r. ⌜ pinsTold (now (s .entry)) (tilesOf g (now (w .exit))) r ≡ mapped (pinsMarked stamp (tilesOf g (now (w .entry)))) (pinsLine (sizesOf g) (placeOf (now (s .entry)) c)) ⌝ }
-    ensures { λ r. ⌜ pinsIn (length (now (s .entry))) (c .at + 5) (c .line + 1) r ⌝ }
-    ensures { λ _. ⌜ Outside (tilesAt g) (g .t) (now (w .entry)) (now (w .exit)) ⌝ }
-{
-    let from = layout::tiles_at(g);
-    let to = layout::links_at(g);
-    pins::pins_line(s, c, &mut w[from..to], g, stamp)
-}
-
-// A row of the net table: of net i, counted from 0, whose layers go from `first` on in the answer list.
-pub struct Row {
-    pub i: usize,
-    pub first: usize,
-}
-
-// What the lines of a net say in its row.
-fn put_row(table: &mut [u32], row: Row, pins: Pins, edges: Edges)
-    requires { ⌜ (row .i < mostNets) × (tableSize ≤ length (now table)) ⌝ }
-    requires { ⌜ (pins .from ≤ 16777216) × (edges .from ≤ 16777216) × (pins .entries ≤ 16777216) × (row .first ≤ 16777216) × (edges .entries ≤ 16777216) ⌝ }
-    ensures { λ _. ⌜ now (table .exit) ≡ rowPut (now (table .entry)) (row .i) (pins .from) (edges .from) (pins .entries) (row .first) (edges .entries) ⌝ }
-{
-    let i = row.i;
-    table[layout::pins_column(i)] = pins.from as u32;
-    table[layout::edges_column(i)] = edges.from as u32;
-    table[layout::entries_column(i)] = pins.entries as u32;
-    table[layout::first_column(i)] = row.first as u32;
-    table[layout::count_column(i)] = edges.entries as u32;
-}
-
-// The `pins` and `edges` lines of a net, behind its `net` line.
-fn net_body(s: &[u8], c: Cursor, w: &mut [u32], g: Shape, table: &mut [u32], row: Row) -> NetRead
-    requires { ⌜ Shaped g ⌝ }
-    requires { ⌜ (c .at ≤ length (now s)) × (c .line < 100000) × (length (now s) ≤ 1048576) ⌝ }
-    requires { ⌜ (tableSize ≤ length (now table)) × (row .first ≤ 16777216) ⌝ }
-    requires { ⌜ NetReady g (row .i) (now w) ⌝ }
-    ensures { λ r. ⌜ NetTold (now (s .entry)) g (row .i) (row .first) (c .line + 2) (now (w .entry)) (now (w .exit)) (now (table .entry)) (now (table .exit)) (bodyIn (sizesOf g) (placeOf (now (s .entry)) c)) r ⌝ }
-    ensures { λ _. ⌜ (length (now (w .exit)) ≡ length (now (w .entry))) × (length (now (table .exit)) ≡ length (now (table .entry))) ⌝ }
-{
-    let stamp = (row.i + 1) as u32;
-    match net_pins(s, c, w, g, stamp) {
-        PinsRead::Refused(r) => NetRead::Refused(r),
-        PinsRead::Line(p, d) => match edges::edges_line(s, d, w, g, stamp, p.tiles) {
-            EdgesRead::Refused(r) => NetRead::Refused(r),
-            EdgesRead::Line(e, f) => {
-                put_row(table, row, p, e);
-                NetRead::Net(f, e.entries)
-            }
-        },
-    }
-}
-
-// The three lines of a net.
-fn read_net(s: &[u8], c: Cursor, w: &mut [u32], g: Shape, table: &mut [u32], row: Row) -> NetRead
-    requires { ⌜ Shaped g ⌝ }
-    requires { ⌜ (c .at ≤ length (now s)) × (c .line < 90000) × (length (now s) ≤ 1048576) ⌝ }
-    requires { ⌜ (tableSize ≤ length (now table)) × (row .first ≤ 16777216) ⌝ }
-    requires { ⌜ NetReady g (row .i) (now w) ⌝ }
-    ensures { λ r. ⌜ NetTold (now (s .entry)) g (row .i) (row .first) (c .line + 3) (now (w .entry)) (now (w .exit)) (now (table .entry)) (now (table .exit)) (netLines (sizesOf g) (row .i + 1) (placeOf (now (s .entry)) c)) r ⌝ }
-    ensures { λ _. ⌜ (length (now (w .exit)) ≡ length (now (w .entry))) × (length (now (table .exit)) ≡ length (now (table .entry))) ⌝ }
-{
-    match net_line(s, c, row.i + 1) {
-        Listed::Refused(r) => NetRead::Refused(r),
-        Listed::Next(d) => net_body(s, d, w, g, table, row),
-    }
-}
-
-// The lines of all n nets.
-fn read_nets(
-    s: &[u8],
-    from: Cursor,
-    w: &mut [u32],
-    g: Shape,
-    table: &mut [u32],
-    n: usize,
-) -> NetsRead
-    requires { ⌜ Shaped g ⌝ }
-    requires { ⌜ (from .at ≤ length (now s)) × (from .line < 1000) × (length (now s) ≤ 1048576) × (n ≤ mostNets) ⌝ }
-    requires { ⌜ NetsReady g (now w) (now table) ⌝ }
-    ensures { λ r. ⌜ NetsTold (now (s .entry)) g n (from .line + 3 * n) (now (w .entry)) (now (w .exit)) (now (table .exit)) (nets (sizesOf g) 1 n (placeOf (now (s .entry)) from)) r ⌝ }
-    ensures { λ _. ⌜ (length (now (w .exit)) ≡ length (now (w .entry))) × (length (now (table .exit)) ≡ length (now (table .entry))) ⌝ }
-{
-    let mut c = from;
-    let mut entries = 0;
-    let mut i = 0;
-    while i < n {
-        let row = Row { i, first: entries };
-        match read_net(s, c, w, g, table, row) {
-            NetRead::Refused(r) => {
-                return NetsRead::Refused(r);
-            }
-            NetRead::Net(d, count) => {
-                c = d;
-                entries += count;
-            }
-        }
-        i += 1;
-    }
-    NetsRead::Nets(c, entries)
 }
 
 // Whether the print of n nets with so many edges fits: "256 + 64 × N + 2 × A bytes".
@@ -227,7 +82,7 @@ fn read_rest(
     ensures { λ r. ⌜ RestTold (now (s .entry)) h (lists .answer) (lists .print) (placeOf (now (s .entry)) c) (now (w .entry)) (now (w .exit)) (now (table .exit)) r ⌝ }
     ensures { λ _. ⌜ (length (now (w .exit)) ≡ length (now (w .entry))) × (length (now (table .exit)) ≡ length (now (table .entry))) ⌝ }
 {
-    match read_nets(s, c, w, h.shape, table, h.nets) {
+    match nets::read_nets(s, c, w, h.shape, table, h.nets) {
         NetsRead::Refused(r) => JobRead::Refused(r),
         NetsRead::Nets(d, entries) => match read_end(s, d, h.nets, entries, lists) {
             Listed::Refused(r) => JobRead::Refused(r),

@@ -2,7 +2,7 @@
 -- Assumes nothing.
 use mathlib.Core.Path.{_≡_, refl, sym, ap, ap₂, _∙_}
 use mathlib.Core.List.{List}
-use mathlib.Core.Bool.{Bool, true, false, not, cond}
+use mathlib.Core.Bool.{true, false, not, cond}
 use mathlib.Core.Logic.{⊎-elim, _≢_}
 use Prim.Native.Nat.{ℕ, _+_, _*_, _≤_, _<_, max, min}
 use native.Mathlib.Omega.{arith}
@@ -13,8 +13,7 @@ use Rattle.layout.specs.Shapes.{mostTiles}
 use Rattle.marks.specs.Words.{stampUnit}
 use Rattle.theory.specs.congestion.Sums.{same-cases, eqb-true, eqb-false}
 use Rattle.theory.specs.walk.Joined.{relabel, relabel-same}
-use Rattle.theory.specs.walk.Union.{topOf, link, halve, top-ext, top-le, root-fixed, root-top, root-step, halve-root, link-root}
-use Rattle.marks.specs.Marks.{Older}
+use Rattle.theory.specs.walk.Union.{topOf, link, halve, top-ext, root-fixed, root-top, root-step, halve-root, link-root}
 use Rattle.union.specs.Links.{parentIn, Links, Kept, Found, Merged, parent-new}
 
 -- ---- one word

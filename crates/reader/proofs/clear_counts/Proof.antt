@@ -7,7 +7,7 @@ use native.Mathlib.Omega.{arith}
 use borrow.Author.Needs.{needs}
 use Rattle.layout.specs.Areas.{loadsAt, flatAt, tilesAt, chosenAt}
 use Rattle.layout.specs.declared.Shape.{Shape}
-use Rattle.reader.specs.Nets.{PartCleared, CountsCleared}
+use Rattle.nets.specs.Nets.{PartCleared, CountsCleared}
 use Rattle.reader.proofs.clear_counts.Statement.{statement}
 use Rattle.reader.proofs.clear_counts.Tie as tie
 

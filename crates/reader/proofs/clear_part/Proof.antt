@@ -9,7 +9,7 @@ use borrow.Author.Needs.{needs}
 use borrow.Rule.Slice.PartMut.{putMid}
 use Rattle.layout.specs.Lent.{lent-part, put-part, put-outside}
 use Rattle.layout.specs.Parts.{part, part-at, part-long}
-use Rattle.reader.specs.Nets.{PartCleared}
+use Rattle.nets.specs.Nets.{PartCleared}
 use Rattle.reader.proofs.clear_part.Statement.{statement}
 use Rattle.reader.proofs.clear_part.Tie as tie
 

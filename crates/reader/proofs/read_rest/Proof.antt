@@ -7,10 +7,10 @@ use borrow.Author.Needs.{needs}
 use Rattle.layout.specs.Shapes.{sizesOf}
 use Rattle.model.specs.Read.{nets}
 use Rattle.text.specs.Refusals.{placeOf}
-use Rattle.reader.specs.Nets.{NetsTold}
-use Rattle.reader.specs.declared.NetsRead.{NetsRead}
+use Rattle.nets.specs.Nets.{NetsTold}
+use Rattle.nets.specs.declared.NetsRead.{NetsRead}
 use Rattle.reader.proofs.Ends.{nets-found, rest-no-nets, rest-no-end, rest-found}
-use Rattle.reader.proofs.Loop.{nets-few}
+use Rattle.nets.proofs.Loop.{nets-few}
 use Rattle.reader.proofs.read_rest.Statement.{statement}
 use Rattle.reader.proofs.read_rest.Tie as tie
 

@@ -36,9 +36,9 @@ use Rattle.theory.specs.links.Reading.{PinsOk, EdgesOk, gives-found, pins-give,
 use Rattle.theory.specs.links.Scores.{pins-few}
 use Rattle.theory.specs.walk.GridNet.{net-room}
 use Rattle.union.specs.Links.{links-older}
-use Rattle.reader.specs.Rows.{rowPut}
-use Rattle.reader.specs.Nets.{bodyIn, NetReady, NetCounted, NetFound}
-use Rattle.reader.proofs.Stand.{pins-stand, row-long, row-others, row-stands}
+use Rattle.nets.specs.Rows.{rowPut}
+use Rattle.nets.specs.Nets.{bodyIn, NetReady, NetCounted, NetFound}
+use Rattle.nets.proofs.Stand.{pins-stand, row-long, row-others, row-stands}
 
 -- a net whose two lines the definitions found
 net-ok : (g : Shape) (net : Net) (p q r t : Place) → pinsLine (sizesOf g) p ≡ found (net .pins) q → edgesLine (sizesOf g) (net .pins) r ≡ found (net .edges) t → NetOk (g .w) (g .h) (g .k) net

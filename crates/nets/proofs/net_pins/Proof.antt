@@ -14,8 +14,8 @@ use Rattle.model.specs.Read.{pinsLine}
 use Rattle.lines.specs.Told.{mapped}
 use Rattle.pins.specs.Pins.{pinsTold, pinsMarked}
 use Rattle.text.specs.Refusals.{placeOf}
-use Rattle.reader.proofs.net_pins.Statement.{statement}
-use Rattle.reader.proofs.net_pins.Tie as tie
+use Rattle.nets.proofs.net_pins.Statement.{statement}
+use Rattle.nets.proofs.net_pins.Tie as tie
 
 pins-line-requires : tie.Need-pins-line-requires
 pins-line-requires c κs =

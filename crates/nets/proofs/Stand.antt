@@ -19,7 +19,7 @@ use Rattle.scan.specs.Keys.{judged, onKey, pins-law, behind-is}
 use Rattle.scan.specs.Lines.{Lined}
 use Rattle.scan.specs.Pins.{pinsOf}
 use Rattle.text.specs.Entries.{startsWith}
-use Rattle.reader.specs.Rows.{rowPut, RowAt}
+use Rattle.nets.specs.Rows.{rowPut, RowAt}
 
 -- ---- the pins of a `pins` line
 

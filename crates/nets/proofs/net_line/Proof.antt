@@ -4,9 +4,9 @@ use Prim.Native.Nat.{_+_}
 use lib.ListN.{length}
 use borrow.Author.Needs.{needs}
 use Rattle.lines.specs.Told.{field-after}
-use Rattle.reader.proofs.Turns.{turn-refused, turn-other, turn-next}
-use Rattle.reader.proofs.net_line.Statement.{statement}
-use Rattle.reader.proofs.net_line.Tie as tie
+use Rattle.nets.proofs.Turns.{turn-refused, turn-other, turn-next}
+use Rattle.nets.proofs.net_line.Statement.{statement}
+use Rattle.nets.proofs.net_line.Tie as tie
 
 returns : tie.Need-returns
 returns c =

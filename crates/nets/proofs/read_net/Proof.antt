@@ -6,9 +6,9 @@ use native.Mathlib.Omega.{arith}
 use lib.ListN.{length}
 use borrow.Author.Needs.{needs}
 use Rattle.lines.specs.Told.{After, list-after}
-use Rattle.reader.proofs.Turns.{net-refused, net-goes-on}
-use Rattle.reader.proofs.read_net.Statement.{statement}
-use Rattle.reader.proofs.read_net.Tie as tie
+use Rattle.nets.proofs.Turns.{net-refused, net-goes-on}
+use Rattle.nets.proofs.read_net.Statement.{statement}
+use Rattle.nets.proofs.read_net.Tie as tie
 
 returns : tie.Need-returns
 returns c =

@@ -6,7 +6,7 @@ use Prim.Native.Nat.{ℕ, _<_}
 use native.Mathlib.Omega.{arith}
 use lib.ListN.{length, set, length-set}
 use Rattle.layout.specs.Table.{pinsColumn, edgesColumn, entriesColumn, firstColumn, countColumn}
-use Rattle.reader.specs.Rows.{rowPut}
+use Rattle.nets.specs.Rows.{rowPut}
 
 -- a place is still in the table
 module _ (t : List ℕ) (i : ℕ) (h : i < length t) (a x b y c z d u : ℕ) where

@@ -22,11 +22,11 @@ use Rattle.text.specs.Refusals.{placeOf}
 use Rattle.text.specs.declared.Cursor.{Cursor}
 use Rattle.theory.specs.links.Nets.{NetOk, EachNet}
 use Rattle.theory.specs.links.Stretches.{offset}
-use Rattle.reader.specs.Rows.{RowAt}
-use Rattle.reader.specs.declared.NetRead.{NetRead}
-use Rattle.reader.specs.declared.NetRead.the-variants.{Net as read, Refused}
-use Rattle.reader.specs.declared.NetsRead.{NetsRead}
-use Rattle.reader.specs.declared.NetsRead.the-variants.{Nets as allRead, Refused as NetsRefused}
+use Rattle.nets.specs.Rows.{RowAt}
+use Rattle.nets.specs.declared.NetRead.{NetRead}
+use Rattle.nets.specs.declared.NetRead.the-variants.{Net as read, Refused}
+use Rattle.nets.specs.declared.NetsRead.{NetsRead}
+use Rattle.nets.specs.declared.NetsRead.the-variants.{Nets as allRead, Refused as NetsRefused}
 
 -- the answer to a `net` line
 abbrev pub turnTold : List ℕ → Listed → Result (Unit {0})

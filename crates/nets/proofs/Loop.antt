@@ -26,9 +26,9 @@ use Rattle.text.specs.declared.Refusal.{Refusal}
 use Rattle.theory.specs.links.Nets.{NetOk, EachNet}
 use Rattle.theory.specs.links.Reading.{gives-found, net-gives}
 use Rattle.theory.specs.links.Stretches.{offset}
-use Rattle.reader.specs.Rows.{RowAt}
-use Rattle.reader.specs.Nets.{NetReady, NetFound, SoRead, NetsReady, NetsFound, edgesOf, noNet, ahead}
-use Rattle.reader.proofs.Body.{few-edges}
+use Rattle.nets.specs.Rows.{RowAt}
+use Rattle.nets.specs.Nets.{NetReady, NetFound, SoRead, NetsReady, NetsFound, edgesOf, noNet, ahead}
+use Rattle.nets.proofs.Body.{few-edges}
 
 -- ---- lists with one net more at the end
 

@@ -2,9 +2,9 @@
 -- Assumes nothing.
 use native.Mathlib.Omega.{arith}
 use borrow.Author.Needs.{needs}
-use Rattle.reader.proofs.Stores.{still-one, still-two, still-three, still-four, row-is}
-use Rattle.reader.proofs.put_row.Statement.{statement}
-use Rattle.reader.proofs.put_row.Tie as tie
+use Rattle.nets.proofs.Stores.{still-one, still-two, still-three, still-four, row-is}
+use Rattle.nets.proofs.put_row.Statement.{statement}
+use Rattle.nets.proofs.put_row.Tie as tie
 
 module _ (c : tie.After-pins-column) where
   abbrev z : tie.Start

@@ -20,8 +20,8 @@ use Rattle.text.specs.declared.Cursor.{Cursor}
 use Rattle.text.specs.declared.Fault.the-variants.{Turn}
 use Rattle.text.specs.declared.Refusal.{Refusal}
 use Rattle.text.specs.declared.Refusal.the-variants.{Line}
-use Rattle.reader.specs.Nets.{turnTold, bodyIn, lines-are, NetTold}
-use Rattle.reader.specs.declared.NetRead.{NetRead}
+use Rattle.nets.specs.Nets.{turnTold, bodyIn, lines-are, NetTold}
+use Rattle.nets.specs.declared.NetRead.{NetRead}
 
 module _ (s : List ℕ) (c : Cursor) (i : ℕ) (f : Field) (told : fieldTold s f ≡ numberLineBy (keyBytes "net") (placeOf s c)) where
   number-is : (g : Field) → f ≡ g → numberLine "net" (placeOf s c) ≡ fieldTold s g

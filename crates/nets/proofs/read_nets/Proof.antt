@@ -8,11 +8,11 @@ use borrow.Author.Needs.{needs}
 use Rattle.layout.specs.Shapes.{sizesOf}
 use Rattle.model.specs.Read.{netLines, nets}
 use Rattle.text.specs.Refusals.{placeOf}
-use Rattle.reader.specs.Nets.{NetTold}
-use Rattle.reader.specs.declared.NetRead.{NetRead}
-use Rattle.reader.proofs.Loop.{Midway, midway-start, midway-ready, midway-few, midway-stop, midway-next, midway-end, midway-count}
-use Rattle.reader.proofs.read_nets.Statement.{statement}
-use Rattle.reader.proofs.read_nets.Tie as tie
+use Rattle.nets.specs.Nets.{NetTold}
+use Rattle.nets.specs.declared.NetRead.{NetRead}
+use Rattle.nets.proofs.Loop.{Midway, midway-start, midway-ready, midway-few, midway-stop, midway-next, midway-end, midway-count}
+use Rattle.nets.proofs.read_nets.Statement.{statement}
+use Rattle.nets.proofs.read_nets.Tie as tie
 
 abbrev Inv-loop : tie.InvT-loop
 Inv-loop s w₀ g table₀ n c₀ entries₀ i₀ w table c entries i =

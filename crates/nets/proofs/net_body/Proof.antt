@@ -21,9 +21,9 @@ use Rattle.pins.specs.declared.Pins.{Pins}
 use Rattle.pins.specs.declared.PinsRead.the-variants.{Line as PinsLine}
 use Rattle.text.specs.Refusals.{placeOf}
 use Rattle.text.specs.declared.Cursor.{Cursor}
-use Rattle.reader.proofs.Body.{line-in, pins-bad, fine, still-few, still-room, begun, reading, edges-bad, pins-number, edges-number, body-found}
-use Rattle.reader.proofs.net_body.Statement.{statement}
-use Rattle.reader.proofs.net_body.Tie as tie
+use Rattle.nets.proofs.Body.{line-in, pins-bad, fine, still-few, still-room, begun, reading, edges-bad, pins-number, edges-number, body-found}
+use Rattle.nets.proofs.net_body.Statement.{statement}
+use Rattle.nets.proofs.net_body.Tie as tie
 
 returns : tie.Need-returns
 returns c =

@@ -1,0 +1,5 @@
+mod Turns
+mod Stores
+mod Stand
+mod Body
+pub mod Loop
