@@ -66,16 +66,23 @@ fn vias_from(layers: usize, s: usize) -> [u32; 8]
     v
 }
 
-// The costs of the intervals from s to each layer b from s on: the vias, and for each branch its least cost within.
-fn intervals_from(w: &[u32], o: usize, first: usize, k: usize, layers: usize, s: usize) -> [u32; 8]
-    requires { ⌜ (k ≤ 3) × (layers ≤ 8) ⌝ }
-    requires { ⌜ (first ≤ 65536) × (o ≤ 16777216) ⌝ }
-    requires { do ⌜ o + 8 * (first + k) ≤ (← ⟦w.len()⟧) ⌝ }
-    ensures { λ r. ⌜ Eight r (interval (now (w .entry)) o first k s) s layers ⌝ }
+// A tile's branches: they lead to so many tiles from `first` on, whose rows are counted from `rows`.
+pub struct Branches {
+    pub rows: usize,
+    pub first: usize,
+    pub count: usize,
+}
+
+// The costs of the intervals from s to each layer from s on: the vias, and for each branch its least cost within.
+fn intervals_from(w: &[u32], b: Branches, layers: usize, s: usize) -> [u32; 8]
+    requires { ⌜ (b .count ≤ 3) × (layers ≤ 8) ⌝ }
+    requires { ⌜ (b .first ≤ 65536) × (b .rows ≤ 16777216) ⌝ }
+    requires { do ⌜ b .rows + 8 * (b .first + b .count) ≤ (← ⟦w.len()⟧) ⌝ }
+    ensures { λ r. ⌜ Eight r (interval (now (w .entry)) (b .rows) (b .first) (b .count) s) s layers ⌝ }
 {
     let mut v = vias_from(layers, s);
-    for c in 0..k {
-        add_branch(&mut v, w, o + 8 * (first + c), layers, s);
+    for c in 0..b.count {
+        add_branch(&mut v, w, b.rows + 8 * (b.first + c), layers, s);
     }
     v
 }
@@ -106,50 +113,33 @@ fn take_intervals(c: &mut [u32; 8], v: &[u32; 8], layers: usize, s: usize, high:
     }
 }
 
-// Takes the intervals that start at s, of a tile with k branches, into the costs c of those that start below s.
-fn take_start(
-    c: &mut [u32; 8],
-    w: &[u32],
-    o: usize,
-    first: usize,
-    k: usize,
-    layers: usize,
-    s: usize,
-    high: usize,
-)
-    requires { ⌜ (k ≤ 3) × (s < layers) × (layers ≤ 8) ⌝ }
-    requires { ⌜ (first ≤ 65536) × (o ≤ 16777216) ⌝ }
-    requires { do ⌜ o + 8 * (first + k) ≤ (← ⟦w.len()⟧) ⌝ }
-    requires { ⌜ Eight (now c) (around (now w) o first k layers s high) 0 layers ⌝ }
-    ensures { λ _. ⌜ Eight (now (c .exit)) (around (now (w .entry)) o first k layers (s + 1) high) 0 layers ⌝ }
+// Takes the intervals that start at s, of a tile with these branches, into the costs c of those that start below s.
+fn take_start(c: &mut [u32; 8], w: &[u32], b: Branches, layers: usize, s: usize, high: usize)
+    requires { ⌜ (b .count ≤ 3) × (s < layers) × (layers ≤ 8) ⌝ }
+    requires { ⌜ (b .first ≤ 65536) × (b .rows ≤ 16777216) ⌝ }
+    requires { do ⌜ b .rows + 8 * (b .first + b .count) ≤ (← ⟦w.len()⟧) ⌝ }
+    requires { ⌜ Eight (now c) (around (now w) (b .rows) (b .first) (b .count) layers s high) 0 layers ⌝ }
+    ensures { λ _. ⌜ Eight (now (c .exit)) (around (now (w .entry)) (b .rows) (b .first) (b .count) layers (s + 1) high) 0 layers ⌝ }
 {
-    let v = intervals_from(w, o, first, k, layers, s);
+    let v = intervals_from(w, b, layers, s);
     take_intervals(c, &v, layers, s, high);
 }
 
-// The costs of a tile with k branches over the intervals that start below `starts` and end at `high` or above.
-fn interval_costs(
-    w: &[u32],
-    o: usize,
-    first: usize,
-    k: usize,
-    layers: usize,
-    starts: usize,
-    high: usize,
-) -> [u32; 8]
-    requires { ⌜ (k ≤ 3) × (starts ≤ layers) × (layers ≤ 8) ⌝ }
-    requires { ⌜ (first ≤ 65536) × (o ≤ 16777216) ⌝ }
-    requires { do ⌜ o + 8 * (first + k) ≤ (← ⟦w.len()⟧) ⌝ }
-    ensures { λ r. ⌜ Eight r (around (now (w .entry)) o first k layers starts high) 0 layers ⌝ }
+// The costs of a tile with these branches over the intervals that start below `starts` and end at `high` or above.
+fn interval_costs(w: &[u32], b: Branches, layers: usize, starts: usize, high: usize) -> [u32; 8]
+    requires { ⌜ (b .count ≤ 3) × (starts ≤ layers) × (layers ≤ 8) ⌝ }
+    requires { ⌜ (b .first ≤ 65536) × (b .rows ≤ 16777216) ⌝ }
+    requires { do ⌜ b .rows + 8 * (b .first + b .count) ≤ (← ⟦w.len()⟧) ⌝ }
+    ensures { λ r. ⌜ Eight r (around (now (w .entry)) (b .rows) (b .first) (b .count) layers starts high) 0 layers ⌝ }
 {
     let mut c = [ILLEGAL; 8];
     for s in 0..starts {
-        take_start(&mut c, w, o, first, k, layers, s, high);
+        take_start(&mut c, w, b, layers, s, high);
     }
     c
 }
 
-// The same on eight layers. Each start is a number of its own, so that what is done for it is known before the program runs.
+// The same on eight layers. Each start, and how many branches there are, is a number of its own, so that what is done for it is known before the program runs.
 fn eight_intervals(
     w: &[u32],
     o: usize,
@@ -163,36 +153,41 @@ fn eight_intervals(
     requires { do ⌜ o + 8 * (first + k) ≤ (← ⟦w.len()⟧) ⌝ }
     ensures { λ r. ⌜ Eight r (around (now (w .entry)) o first k 8 starts high) 0 8 ⌝ }
 {
+    let b = Branches {
+        rows: o,
+        first,
+        count: k,
+    };
     let mut c = [ILLEGAL; 8];
-    take_start(&mut c, w, o, first, k, 8, 0, high);
+    take_start(&mut c, w, b, 8, 0, high);
     if starts == 1 {
         return c;
     }
-    take_start(&mut c, w, o, first, k, 8, 1, high);
+    take_start(&mut c, w, b, 8, 1, high);
     if starts == 2 {
         return c;
     }
-    take_start(&mut c, w, o, first, k, 8, 2, high);
+    take_start(&mut c, w, b, 8, 2, high);
     if starts == 3 {
         return c;
     }
-    take_start(&mut c, w, o, first, k, 8, 3, high);
+    take_start(&mut c, w, b, 8, 3, high);
     if starts == 4 {
         return c;
     }
-    take_start(&mut c, w, o, first, k, 8, 4, high);
+    take_start(&mut c, w, b, 8, 4, high);
     if starts == 5 {
         return c;
     }
-    take_start(&mut c, w, o, first, k, 8, 5, high);
+    take_start(&mut c, w, b, 8, 5, high);
     if starts == 6 {
         return c;
     }
-    take_start(&mut c, w, o, first, k, 8, 6, high);
+    take_start(&mut c, w, b, 8, 6, high);
     if starts == 7 {
         return c;
     }
-    take_start(&mut c, w, o, first, k, 8, 7, high);
+    take_start(&mut c, w, b, 8, 7, high);
     c
 }
 
@@ -397,37 +392,29 @@ fn eight_costs(
     eight_intervals(w, o, first, 3, e.starts, e.high)
 }
 
-// The least cost of a tile with k branches, which lead to the tiles from `first` on, for each layer above it.
-fn tile_costs(
-    w: &[u32],
-    o: usize,
-    first: usize,
-    k: usize,
-    layers: usize,
-    pins: u32,
-    chart: &[u32; 256],
-) -> [u32; 8]
+// The least cost of a tile with these branches, for each layer above it.
+fn tile_costs(w: &[u32], b: Branches, layers: usize, pins: u32, chart: &[u32; 256]) -> [u32; 8]
     requires { ⌜ Charted spanOf (now chart) ⌝ }
-    requires { ⌜ k ≤ 3 ⌝ }
+    requires { ⌜ b .count ≤ 3 ⌝ }
     requires { ⌜ LayerMask layers pins ⌝ }
     requires { ⌜ (1 ≤ layers) × (layers ≤ 8) ⌝ }
-    requires { ⌜ (first ≤ 65536) × (o ≤ 16777216) ⌝ }
-    requires { do ⌜ o + 8 * (first + k) ≤ (← ⟦w.len()⟧) ⌝ }
-    ensures { λ r. ⌜ TileCosts (now (w .entry)) o first k layers pins r ⌝ }
+    requires { ⌜ (b .first ≤ 65536) × (b .rows ≤ 16777216) ⌝ }
+    requires { do ⌜ b .rows + 8 * (b .first + b .count) ≤ (← ⟦w.len()⟧) ⌝ }
+    ensures { λ r. ⌜ TileCosts (now (w .entry)) (b .rows) (b .first) (b .count) layers pins r ⌝ }
 {
-    if k == 0 {
+    if b.count == 0 {
         return leaf_costs(chart, pins);
     }
     if layers == 8 {
-        return eight_costs(w, o, first, k, pins, chart);
+        return eight_costs(w, b.rows, b.first, b.count, pins, chart);
     }
     if pins == 0 {
-        if k == 1 {
-            return sweep_costs(w, o + 8 * first, layers);
+        if b.count == 1 {
+            return sweep_costs(w, b.rows + 8 * b.first, layers);
         }
     }
     let e = pin_ends(pins, layers);
-    interval_costs(w, o, first, k, layers, e.starts, e.high)
+    interval_costs(w, b, layers, e.starts, e.high)
 }
 
 // ---- rows
@@ -482,7 +469,12 @@ fn tile_row(w: &mut [u32], m: usize, n: usize, i: usize, layers: usize, chart: &
     let end = at(w, i);
     let pins = at(w, m + i) as u32;
     let legal = at(w, 2 * m + i) as u32;
-    let c = tile_costs(w, 4 * m, first, end - first, layers, pins, chart);
+    let b = Branches {
+        rows: 4 * m,
+        first,
+        count: end - first,
+    };
+    let c = tile_costs(w, b, layers, pins, chart);
     put_row(w, 4 * m + 8 * i, &c, legal);
 }
 
@@ -521,6 +513,11 @@ pub fn root_least(w: &[u32], m: usize, n: usize, layers: usize, chart: &[u32; 25
 {
     let end = at(w, 0);
     let pins = at(w, m) as u32;
-    let c = tile_costs(w, 4 * m, 1, end - 1, layers, pins, chart);
+    let b = Branches {
+        rows: 4 * m,
+        first: 1,
+        count: end - 1,
+    };
+    let c = tile_costs(w, b, layers, pins, chart);
     least_cost(&c, layers)
 }

@@ -3,6 +3,7 @@
 use layout::Shape;
 use text::Cursor;
 use text::Fault;
+use text::Item;
 use text::Refusal;
 use ways::Ends;
 ghost use mathlib.Core.Path.{_≡_};
@@ -104,20 +105,20 @@ fn put_demand(w: &mut [u32], g: Shape, edge: usize)
 }
 
 // One more edge inside the grid, where none is there twice.
-fn add_edge(w: &mut [u32], g: Shape, stamp: u32, v: Seen, x: usize, y: usize, d: usize) -> Seen
+fn add_edge(w: &mut [u32], g: Shape, stamp: u32, v: Seen, e: Item) -> Seen
     requires { ⌜ Shaped g ⌝ }
-    requires { ⌜ (chosenAt g ≤ length (now w)) × (stamp ≤ mostStamp) × (v .entries < 4294967296) × (d ≤ 1) × (edgeInside (g .w) (g .h) (triple x y d) ≡ true) ⌝ }
+    requires { ⌜ (chosenAt g ≤ length (now w)) × (stamp ≤ mostStamp) × (v .entries < 4294967296) × (e .z ≤ 1) × (edgeInside (g .w) (g .h) (triple (e .x) (e .y) (e .z)) ≡ true) ⌝ }
     requires { ⌜ Ready g stamp (v .parts) (now w) × GoesOn (v .judged) ⌝ }
-    ensures { λ r. ⌜ ((ps : List Pin) (w₀ : List ℕ) (ts : List Triple) → Shown g stamp ps w₀ ts (v .parts) (now (w .entry)) (v .judged) → Shown g stamp ps w₀ (ts ++ (triple x y d ∷ [])) (r .parts) (now (w .exit)) (r .judged)) ⌝ }
+    ensures { λ r. ⌜ ((ps : List Pin) (w₀ : List ℕ) (ts : List Triple) → Shown g stamp ps w₀ ts (v .parts) (now (w .entry)) (v .judged) → Shown g stamp ps w₀ (ts ++ (triple (e .x) (e .y) (e .z) ∷ [])) (r .parts) (now (w .exit)) (r .judged)) ⌝ }
     ensures { λ r. ⌜ r .entries ≡ v .entries + 1 ⌝ }
     ensures { λ _. ⌜ length (now (w .exit)) ≡ length (now (w .entry)) ⌝ }
 {
-    let here = layout::tile_at(g, x, y);
-    let out = ways::way_on(g, here, y, d);
+    let here = layout::tile_at(g, e.x, e.y);
+    let out = ways::way_on(g, here, e.y, e.z);
     let there = out.tile;
     let edge = out.edge;
     let entries = v.entries + 1;
-    match put_marks(w, g, stamp, here, there, d as u32) {
+    match put_marks(w, g, stamp, here, there, e.z as u32) {
         Ends::Twice => Seen {
             entries,
             parts: v.parts,
@@ -156,17 +157,17 @@ fn goes_on(j: Judged) -> bool
 }
 
 // One more entry. Where one has left the grid, or an edge is there twice, nothing is marked any more: only form and range can still decide.
-fn put_edge(w: &mut [u32], g: Shape, stamp: u32, v: Seen, x: usize, y: usize, d: usize) -> Seen
+fn put_edge(w: &mut [u32], g: Shape, stamp: u32, v: Seen, e: Item) -> Seen
     requires { ⌜ Shaped g ⌝ }
-    requires { ⌜ (chosenAt g ≤ length (now w)) × (stamp ≤ mostStamp) × (v .entries < 4294967296) × (d ≤ 1) ⌝ }
+    requires { ⌜ (chosenAt g ≤ length (now w)) × (stamp ≤ mostStamp) × (v .entries < 4294967296) × (e .z ≤ 1) ⌝ }
     requires { ⌜ (GoesOn (v .judged) → Ready g stamp (v .parts) (now w)) ⌝ }
-    ensures { λ r. ⌜ ((ps : List Pin) (w₀ : List ℕ) (ts : List Triple) → Shown g stamp ps w₀ ts (v .parts) (now (w .entry)) (v .judged) → Shown g stamp ps w₀ (ts ++ (triple x y d ∷ [])) (r .parts) (now (w .exit)) (r .judged)) ⌝ }
+    ensures { λ r. ⌜ ((ps : List Pin) (w₀ : List ℕ) (ts : List Triple) → Shown g stamp ps w₀ ts (v .parts) (now (w .entry)) (v .judged) → Shown g stamp ps w₀ (ts ++ (triple (e .x) (e .y) (e .z) ∷ [])) (r .parts) (now (w .exit)) (r .judged)) ⌝ }
     ensures { λ r. ⌜ r .entries ≡ v .entries + 1 ⌝ }
     ensures { λ _. ⌜ length (now (w .exit)) ≡ length (now (w .entry)) ⌝ }
 {
     let entries = v.entries + 1;
     let parts = v.parts;
-    if !inside(g, x, y, d) {
+    if !inside(g, e.x, e.y, e.z) {
         return Seen {
             entries,
             parts,
@@ -175,7 +176,7 @@ fn put_edge(w: &mut [u32], g: Shape, stamp: u32, v: Seen, x: usize, y: usize, d:
     }
     let judged = v.judged;
     if goes_on(judged) {
-        return add_edge(w, g, stamp, v, x, y, d);
+        return add_edge(w, g, stamp, v, e);
     }
     Seen {
         entries,
@@ -226,7 +227,7 @@ fn entries(s: &[u8], c: Cursor, w: &mut [u32], g: Shape, stamp: u32, parts: usiz
         if !e.good {
             return EdgesRead::Refused(Refusal::Line(Fault::Form, c.line));
         }
-        v = put_edge(w, g, stamp, v, e.x, e.y, e.z);
+        v = put_edge(w, g, stamp, v, e);
         i = e.next;
         if e.last {
             let next = Cursor {

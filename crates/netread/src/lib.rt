@@ -1,4 +1,5 @@
 // The lines of an accepted net, read again for placing. What the first pass found right is not tested again.
+use known::Known;
 use layout::Shape;
 ghost use mathlib.Core.Bool.{true};
 ghost use mathlib.Core.Path.{_≡_};
@@ -32,14 +33,14 @@ fn lower(a: usize, b: usize) -> usize
 }
 
 // Marks a pin. The lower of `low` and its tile.
-fn mark_pin(a: &mut [u32], g: Shape, stamp: u32, low: usize, x: usize, y: usize, l: usize) -> usize
+fn mark_pin(a: &mut [u32], g: Shape, stamp: u32, low: usize, p: Known) -> usize
     requires { ⌜ Shaped g ⌝ }
-    requires { ⌜ (g .t ≤ length (now a)) × (stamp ≤ mostStamp) × (x < g .w) × (y < g .h) × (1 ≤ l) × (l ≤ 8) ⌝ }
-    ensures { λ r. ⌜ r ≡ min low (y * g .w + x) ⌝ }
-    ensures { λ _. ⌜ now (a .exit) ≡ marksAfter stamp (now (a .entry)) (y * g .w + x) (l - 1) ⌝ }
+    requires { ⌜ (g .t ≤ length (now a)) × (stamp ≤ mostStamp) × (p .x < g .w) × (p .y < g .h) × (1 ≤ p .third) × (p .third ≤ 8) ⌝ }
+    ensures { λ r. ⌜ r ≡ min low (p .y * g .w + p .x) ⌝ }
+    ensures { λ _. ⌜ now (a .exit) ≡ marksAfter stamp (now (a .entry)) (p .y * g .w + p .x) (p .third - 1) ⌝ }
 {
-    let here = layout::tile_at(g, x, y);
-    marks::set_mark(a, stamp, here, (l - 1) as u32);
+    let here = layout::tile_at(g, p.x, p.y);
+    marks::set_mark(a, stamp, here, (p.third - 1) as u32);
     lower(low, here)
 }
 
@@ -54,7 +55,7 @@ pub fn mark_pins(s: &[u8], at: usize, a: &mut [u32], g: Shape, stamp: u32) -> us
     let mut low = layout::TILES;
     loop {
         let p = known::pin_at(s, i);
-        low = mark_pin(a, g, stamp, low, p.x, p.y, p.third);
+        low = mark_pin(a, g, stamp, low, p);
         if p.last {
             return low;
         }
@@ -103,15 +104,15 @@ fn mark_ways(w: &mut [u32], g: Shape, stamp: u32, here: usize, there: usize, d: 
 }
 
 // Marks an edge, and lists it behind those read before.
-fn mark_edge(w: &mut [u32], g: Shape, stamp: u32, v: Again, x: usize, y: usize, d: usize) -> Again
+fn mark_edge(w: &mut [u32], g: Shape, stamp: u32, v: Again, e: Known) -> Again
     requires { ⌜ Shaped g ⌝ }
-    requires { ⌜ (areasEnd g ≤ length (now w)) × (stamp ≤ mostStamp) × (v .edges < g .t) × (d ≤ 1) × (edgeInside (g .w) (g .h) (triple x y d) ≡ true) ⌝ }
+    requires { ⌜ (areasEnd g ≤ length (now w)) × (stamp ≤ mostStamp) × (v .edges < g .t) × (e .third ≤ 1) × (edgeInside (g .w) (g .h) (triple (e .x) (e .y) (e .third)) ≡ true) ⌝ }
     requires { ⌜ Fits stamp (tilesOf g (now w)) ⌝ }
-    ensures { λ r. ⌜ EdgeMarked g stamp (triple x y d) v (now (w .entry)) (now (w .exit)) r ⌝ }
+    ensures { λ r. ⌜ EdgeMarked g stamp (triple (e .x) (e .y) (e .third)) v (now (w .entry)) (now (w .exit)) r ⌝ }
 {
-    let here = layout::tile_at(g, x, y);
-    let way = layout::way_out(g, here, d);
-    mark_ways(w, g, stamp, here, way.tile, d as u32);
+    let here = layout::tile_at(g, e.x, e.y);
+    let way = layout::way_out(g, here, e.third);
+    mark_ways(w, g, stamp, here, way.tile, e.third as u32);
     let i = layout::list_at(g) + v.edges;
     w[i] = way.edge as u32;
     Again {
@@ -131,7 +132,7 @@ fn mark_entries(s: &[u8], at: usize, w: &mut [u32], g: Shape, stamp: u32, low: u
     let mut v = Again { low, edges: 0 };
     loop {
         let e = known::edge_at(s, i);
-        v = mark_edge(w, g, stamp, v, e.x, e.y, e.third);
+        v = mark_edge(w, g, stamp, v, e);
         if e.last {
             return v;
         }

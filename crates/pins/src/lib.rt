@@ -3,6 +3,7 @@ use layout::Shape;
 use marks::Put;
 use text::Cursor;
 use text::Fault;
+use text::Item;
 use text::Refusal;
 ghost use mathlib.Core.Path.{_≡_};
 ghost use mathlib.Core.Bool.{true, false};
@@ -84,13 +85,13 @@ fn mark_pin(a: &mut [u32], stamp: u32, here: usize, l: usize, v: Seen) -> Seen
 }
 
 // One more entry.
-fn put_pin(a: &mut [u32], g: Shape, stamp: u32, v: Seen, x: usize, y: usize, l: usize) -> Seen
+fn put_pin(a: &mut [u32], g: Shape, stamp: u32, v: Seen, e: Item) -> Seen
     requires { ⌜ Shaped g ⌝ }
     requires { ⌜ (g .t ≤ length (now a)) × (stamp ≤ mostStamp) × (v .entries < 4294967296) × (v .tiles ≤ v .entries) ⌝ }
-    ensures { λ r. ⌜ r ≡ seenAfter g stamp (now (a .entry)) v (triple x y l) ⌝ }
-    ensures { λ _. ⌜ now (a .exit) ≡ workAfter g stamp (now (a .entry)) (triple x y l) ⌝ }
+    ensures { λ r. ⌜ r ≡ seenAfter g stamp (now (a .entry)) v (triple (e .x) (e .y) (e .z)) ⌝ }
+    ensures { λ _. ⌜ now (a .exit) ≡ workAfter g stamp (now (a .entry)) (triple (e .x) (e .y) (e .z)) ⌝ }
 {
-    if !inside(g, x, y, l) {
+    if !inside(g, e.x, e.y, e.z) {
         return Seen {
             entries: v.entries + 1,
             tiles: v.tiles,
@@ -98,8 +99,8 @@ fn put_pin(a: &mut [u32], g: Shape, stamp: u32, v: Seen, x: usize, y: usize, l: 
             twice: v.twice,
         };
     }
-    let here = layout::tile_at(g, x, y);
-    mark_pin(a, stamp, here, l, v)
+    let here = layout::tile_at(g, e.x, e.y);
+    mark_pin(a, stamp, here, e.z, v)
 }
 
 // The verdict on a line whose form is right: its entries stand from `from` on, and c is the place after it.
@@ -141,7 +142,7 @@ fn entries(s: &[u8], c: Cursor, a: &mut [u32], g: Shape, stamp: u32) -> PinsRead
         if !e.good {
             return PinsRead::Refused(Refusal::Line(Fault::Form, c.line));
         }
-        v = put_pin(a, g, stamp, v, e.x, e.y, e.z);
+        v = put_pin(a, g, stamp, v, e);
         i = e.next;
         if e.last {
             let next = Cursor {

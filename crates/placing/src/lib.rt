@@ -1,6 +1,6 @@
 // The nets of an accepted job in placing order, each in its turn. Its layers go into its own stretch of the answer list, and its vias into the net table.
-use flat::Limits;
-use layout::Shape;
+use turn::Frame;
+use turn::NetAt;
 ghost use mathlib.Core.Path.{_≡_};
 ghost use Prim.Native.Nat.{ℕ, _*_, _<_, _≤_};
 ghost use lib.ListN.{length, set};
@@ -38,67 +38,75 @@ fn row_of(table: &[u32], i: usize) -> NetRow
     }
 }
 
-// The turn of net i, counted from 0. Its vias.
+// The turn of a net, counted from 0, and the stamp under which it is read.
+pub struct NetTurn {
+    pub frame: Frame,
+    pub net: usize,
+    pub stamp: u32,
+}
+
+// A net's turn. Its vias.
 fn turn_of(
     s: &[u8],
     w: &mut [u32],
-    g: Shape,
     table: &mut [u32],
-    i: usize,
-    stamp: u32,
-    limits: Limits,
     answer: &mut [u8],
     chart: &[u32; 256],
+    turn: NetTurn,
 ) -> u32
     requires { ⌜ Charted spanOf (now chart) ⌝ }
-    requires { ⌜ Shaped g ⌝ }
-    requires { ⌜ (areasEnd g ≤ length (now w)) × (stamp ≤ mostStamp) × (i < mostNets) × (tableSize ≤ length (now table)) ⌝ }
-    requires { ⌜ RowTurnSome (now s) g stamp (limitAt limits) (now w) (now table) (length (now answer)) i ⌝ }
-    ensures { λ r. ⌜ ((u : Turn) → RowTurn (now (s .entry)) g stamp (limitAt limits) (now (w .entry)) (now (table .entry)) (length (now (answer .entry))) i u → RowDone g stamp (now (w .exit)) (now (answer .entry)) (now (answer .exit)) i r u) ⌝ }
-    ensures { λ r. ⌜ now (table .exit) ≡ set (now (table .entry)) (viasColumn i) r ⌝ }
+    requires { ⌜ Shaped (turn .frame .shape) ⌝ }
+    requires { ⌜ (areasEnd (turn .frame .shape) ≤ length (now w)) × (turn .stamp ≤ mostStamp) × (turn .net < mostNets) × (tableSize ≤ length (now table)) ⌝ }
+    requires { ⌜ RowTurnSome (now s) (turn .frame .shape) (turn .stamp) (limitAt (turn .frame .limits)) (now w) (now table) (length (now answer)) (turn .net) ⌝ }
+    ensures { λ r. ⌜ ((u : Turn) → RowTurn (now (s .entry)) (turn .frame .shape) (turn .stamp) (limitAt (turn .frame .limits)) (now (w .entry)) (now (table .entry)) (length (now (answer .entry))) (turn .net) u → RowDone (turn .frame .shape) (turn .stamp) (now (w .exit)) (now (answer .entry)) (now (answer .exit)) (turn .net) r u) ⌝ }
+    ensures { λ r. ⌜ now (table .exit) ≡ set (now (table .entry)) (viasColumn (turn .net)) r ⌝ }
     ensures { λ _. ⌜ (length (now (w .exit)) ≡ length (now (w .entry))) × (length (now (answer .exit)) ≡ length (now (answer .entry))) ⌝ }
 {
-    let row = row_of(table, i);
+    let row = row_of(table, turn.net);
     let from = row.first;
     let to = row.first + row.count;
-    let vias = turn::take_turn(
-        s,
-        row.pins,
-        row.edges,
-        w,
-        g,
-        stamp,
-        limits,
-        &mut answer[from..to],
-        chart,
-    );
-    table[layout::vias_column(i)] = vias;
+    let net = NetAt {
+        pins: row.pins,
+        edges: row.edges,
+        stamp: turn.stamp,
+    };
+    let vias = turn::take_turn(s, net, w, turn.frame, &mut answer[from..to], chart);
+    table[layout::vias_column(turn.net)] = vias;
     vias
 }
 
-// All n nets, in the order that the net table has. `limits` are those on one layer's overflow. The vias of the plan.
+// What is to be placed: how many nets, and what is the same at every turn.
+pub struct ToPlace {
+    pub frame: Frame,
+    pub nets: usize,
+}
+
+// All nets, in the order that the net table has. The vias of the plan.
 pub fn place_all(
     s: &[u8],
     w: &mut [u32],
-    g: Shape,
     table: &mut [u32],
-    n: usize,
-    limits: Limits,
     answer: &mut [u8],
     chart: &[u32; 256],
+    job: ToPlace,
 ) -> u64
     requires { ⌜ Charted spanOf (now chart) ⌝ }
-    requires { ⌜ Shaped g ⌝ }
-    requires { ⌜ (areasEnd g ≤ length (now w)) × (n ≤ mostNets) × (tableSize ≤ length (now table)) ⌝ }
-    requires { ⌜ StartSome (now s) g n (limitAt limits) (now w) (now table) (length (now answer)) ⌝ }
-    ensures { λ r. ⌜ ((lent : Lent) (j : Job) → Start (now (s .entry)) g n (limitAt limits) (now (w .entry)) (now (table .entry)) (length (now (answer .entry))) lent j → AllPlaced j (now (answer .entry)) (now (answer .exit)) (now (table .exit)) r) ⌝ }
+    requires { ⌜ Shaped (job .frame .shape) ⌝ }
+    requires { ⌜ (areasEnd (job .frame .shape) ≤ length (now w)) × (job .nets ≤ mostNets) × (tableSize ≤ length (now table)) ⌝ }
+    requires { ⌜ StartSome (now s) (job .frame .shape) (job .nets) (limitAt (job .frame .limits)) (now w) (now table) (length (now answer)) ⌝ }
+    ensures { λ r. ⌜ ((lent : Lent) (j : Job) → Start (now (s .entry)) (job .frame .shape) (job .nets) (limitAt (job .frame .limits)) (now (w .entry)) (now (table .entry)) (length (now (answer .entry))) lent j → AllPlaced j (now (answer .entry)) (now (answer .exit)) (now (table .exit)) r) ⌝ }
     ensures { λ _. ⌜ (length (now (w .exit)) ≡ length (now (w .entry))) × (length (now (table .exit)) ≡ length (now (table .entry))) × (length (now (answer .exit)) ≡ length (now (answer .entry))) ⌝ }
 {
+    let frame = job.frame;
     let mut vias = 0u64;
-    for k in 0..n {
+    for k in 0..job.nets {
         let i = layout::index(table[layout::turn_column(k)]) - 1;
-        let stamp = (n + 1 + k) as u32;
-        vias += turn_of(s, w, g, table, i, stamp, limits, answer, chart) as u64;
+        let turn = NetTurn {
+            frame,
+            net: i,
+            stamp: (job.nets + 1 + k) as u32,
+        };
+        vias += turn_of(s, w, table, answer, chart, turn) as u64;
     }
     vias
 }

@@ -2,9 +2,12 @@
 // working numbers are zero after every call.
 use head::Head;
 use order::Weights;
+use placing::ToPlace;
+use print::Counts;
 use reader::JobRead;
 use reader::PrintRoom;
 use text::Refusal;
+use turn::Frame;
 ghost use mathlib.Core.Path.{_≡_};
 ghost use Prim.Native.Nat.{ℕ, _≤_};
 ghost use lib.ListN.{length, replicate};
@@ -116,10 +119,15 @@ fn place_nets(s: &[u8], h: Head, w: &mut [u32], table: &mut [u32], answer: &mut 
     ensures { λ r. ⌜ ((lent : Lent) (j : Job) → Turned (now (s .entry)) h (now (w .entry)) (now (table .entry)) (length (now (answer .entry))) lent j → PlanMade j (now (answer .entry)) (now (answer .exit)) (now (table .exit)) r) ⌝ }
     ensures { λ _. ⌜ length (now (w .exit)) ≡ length (now (w .entry)) ⌝ }
 {
-    let flat = flat::overflows(w, h.shape);
-    let limits = flat::limits_of(flat.most, h.shape.k);
+    let shape = h.shape;
+    let flat = flat::overflows(w, shape);
+    let limits = flat::limits_of(flat.most, shape.k);
     let chart = sets::chart();
-    let vias = placing::place_all(s, w, h.shape, table, h.nets, limits, answer, &chart);
+    let job = ToPlace {
+        frame: Frame { shape, limits },
+        nets: h.nets,
+    };
+    let vias = placing::place_all(s, w, table, answer, &chart, job);
     Totals {
         vias,
         total: flat.total,
@@ -169,7 +177,13 @@ fn print_nets(
     ensures { λ _. ⌜ length (now (w .exit)) ≡ length (now (w .entry)) ⌝ }
 {
     let t = place_nets(s, h, w, table, answer);
-    let size = print::put_plan(out, h.nets, table, answer, t.vias, t.total, t.maximum);
+    let counts = Counts {
+        nets: h.nets,
+        vias: t.vias,
+        total: t.total,
+        most: t.maximum,
+    };
+    let size = print::put_plan(out, table, answer, counts);
     Printed::Print(t, size)
 }
 

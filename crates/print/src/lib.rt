@@ -132,24 +132,24 @@ fn put_totals(b: &mut [u8], at: usize, vias: u64, total: u64, most: u64) -> usiz
     put::line(b, c, b"max_overflow=", most)
 }
 
-// The printed plan from place 0 on: the net table has n rows, and in them the nets in placing order.
-pub fn put_plan(
-    b: &mut [u8],
-    n: usize,
-    table: &[u32],
-    answer: &[u8],
-    vias: u64,
-    total: u64,
-    most: u64,
-) -> usize
-    requires { ⌜ Rows n (now table) (now answer) ⌝ }
-    requires { ⌜ length (planText n (now table) (now answer) vias total most) ≤ length (now b) ⌝ }
-    ensures { λ _. ⌜ now (b .exit) ≡ sets (now (b .entry)) 0 (planText n (now (table .entry)) (now (answer .entry)) vias total most) ⌝ }
-    ensures { λ r. ⌜ r ≡ length (planText n (now (table .entry)) (now (answer .entry)) vias total most) ⌝ }
+// The numbers of a plan: how many nets it has, and its totals.
+pub struct Counts {
+    pub nets: usize,
+    pub vias: u64,
+    pub total: u64,
+    pub most: u64,
+}
+
+// The printed plan from place 0 on: the net table has a row for each net, and in them the nets in placing order.
+pub fn put_plan(b: &mut [u8], table: &[u32], answer: &[u8], p: Counts) -> usize
+    requires { ⌜ Rows (p .nets) (now table) (now answer) ⌝ }
+    requires { ⌜ length (planText (p .nets) (now table) (now answer) (p .vias) (p .total) (p .most)) ≤ length (now b) ⌝ }
+    ensures { λ _. ⌜ now (b .exit) ≡ sets (now (b .entry)) 0 (planText (p .nets) (now (table .entry)) (now (answer .entry)) (p .vias) (p .total) (p .most)) ⌝ }
+    ensures { λ r. ⌜ r ≡ length (planText (p .nets) (now (table .entry)) (now (answer .entry)) (p .vias) (p .total) (p .most)) ⌝ }
 {
-    let a = put_order(b, 0, table, n);
-    let c = put_nets(b, a, n, table, answer);
-    put_totals(b, c, vias, total, most)
+    let a = put_order(b, 0, table, p.nets);
+    let c = put_nets(b, a, p.nets, table, answer);
+    put_totals(b, c, p.vias, p.total, p.most)
 }
 
 // "or `refused=number,line`"

@@ -20,6 +20,19 @@ ghost use Rattle.net.specs.Places.{SmallCapacities};
 ghost use Rattle.turn.specs.Turn.{Turn, turnLimit, turnVias, Before, BeforeSome, TurnAt, TurnSome, NetWalked, WalkedSome, NetChosen, ChosenSome, NetPlaced, TurnDone};
 ghost use Rattle.turn.specs.Steps.{KnownEdges, LegalPut, engineOf, putBy, CanAnswer, listedLayers};
 
+// A net's entries stand at `pins` and `edges` of the text, and it is read under this stamp.
+pub struct NetAt {
+    pub pins: usize,
+    pub edges: usize,
+    pub stamp: u32,
+}
+
+// What is the same at every turn: the grid, and the limits on one layer's overflow.
+pub struct Frame {
+    pub shape: Shape,
+    pub limits: Limits,
+}
+
 // Puts the legal layers of the edge above each of n walk places but the first.
 fn put_legal(w: &mut [u32], g: Shape, n: usize, limits: Limits)
     requires { ⌜ Shaped g ⌝ }
@@ -82,16 +95,16 @@ fn put_answer(w: &[u32], g: Shape, out: &mut [u8])
     }
 }
 
-// Reads the net again whose lines stand at `pins` and `edges`, and walks it. How many tiles it has.
-fn read_and_walk(s: &[u8], pins: usize, edges: usize, w: &mut [u32], g: Shape, stamp: u32) -> usize
+// Reads the net again, and walks it. How many tiles it has.
+fn read_and_walk(s: &[u8], net: NetAt, w: &mut [u32], g: Shape) -> usize
     requires { ⌜ Shaped g ⌝ }
-    requires { ⌜ (areasEnd g ≤ length (now w)) × (stamp ≤ mostStamp) ⌝ }
-    requires { ⌜ BeforeSome (now s) pins edges g stamp (now w) ⌝ }
-    ensures { λ r. ⌜ ((u : Turn) → Before (now (s .entry)) pins edges g stamp (now (w .entry)) u → NetWalked g stamp r (now (w .exit)) u) ⌝ }
+    requires { ⌜ (areasEnd g ≤ length (now w)) × (net .stamp ≤ mostStamp) ⌝ }
+    requires { ⌜ BeforeSome (now s) (net .pins) (net .edges) g (net .stamp) (now w) ⌝ }
+    ensures { λ r. ⌜ ((u : Turn) → Before (now (s .entry)) (net .pins) (net .edges) g (net .stamp) (now (w .entry)) u → NetWalked g (net .stamp) r (now (w .exit)) u) ⌝ }
     ensures { λ _. ⌜ length (now (w .exit)) ≡ length (now (w .entry)) ⌝ }
 {
-    let net = netread::read_net(s, pins, edges, w, g, stamp);
-    walk::walk(w, g, stamp, net.low)
+    let again = netread::read_net(s, net.pins, net.edges, w, g, net.stamp);
+    walk::walk(w, g, net.stamp, again.low)
 }
 
 // Chooses the layers of the net with n tiles that is walked. Its vias.
@@ -120,29 +133,27 @@ fn write_layers(w: &mut [u32], g: Shape, n: usize, out: &mut [u8])
     tracks::occupy_all(w, g, n);
 }
 
-// A net takes its turn. Its lines stand at `pins` and `edges` of the text, `limits` are those on one layer's overflow, and `out` is its own stretch of the answer list.
+// A net takes its turn. `out` is its own stretch of the answer list.
 // The caller knows, in its proof, the job and the plan so far: it says once to `requires` that this is some net's turn (`TurnSome`), and once more to
 // `ensures` which (`TurnAt`), and has the net's layers in `out`, its vias as the number returned, and the plan with this net in the working numbers.
 pub fn take_turn(
     s: &[u8],
-    pins: usize,
-    edges: usize,
+    net: NetAt,
     w: &mut [u32],
-    g: Shape,
-    stamp: u32,
-    limits: Limits,
+    frame: Frame,
     out: &mut [u8],
     chart: &[u32; 256],
 ) -> u32
     requires { ⌜ Charted spanOf (now chart) ⌝ }
-    requires { ⌜ Shaped g ⌝ }
-    requires { ⌜ (areasEnd g ≤ length (now w)) × (stamp ≤ mostStamp) ⌝ }
-    requires { ⌜ TurnSome (now s) pins edges g stamp (limitAt limits) (now w) (length (now out)) ⌝ }
-    ensures { λ r. ⌜ ((u : Turn) → TurnAt (now (s .entry)) pins edges g stamp (limitAt limits) (now (w .entry)) (length (now (out .entry))) u → TurnDone g stamp (now (w .exit)) (now (out .exit)) r u) ⌝ }
+    requires { ⌜ Shaped (frame .shape) ⌝ }
+    requires { ⌜ (areasEnd (frame .shape) ≤ length (now w)) × (net .stamp ≤ mostStamp) ⌝ }
+    requires { ⌜ TurnSome (now s) (net .pins) (net .edges) (frame .shape) (net .stamp) (limitAt (frame .limits)) (now w) (length (now out)) ⌝ }
+    ensures { λ r. ⌜ ((u : Turn) → TurnAt (now (s .entry)) (net .pins) (net .edges) (frame .shape) (net .stamp) (limitAt (frame .limits)) (now (w .entry)) (length (now (out .entry))) u → TurnDone (frame .shape) (net .stamp) (now (w .exit)) (now (out .exit)) r u) ⌝ }
     ensures { λ _. ⌜ length (now (w .exit)) ≡ length (now (w .entry)) ⌝ }
 {
-    let n = read_and_walk(s, pins, edges, w, g, stamp);
-    let vias = choose_layers(w, g, n, limits, chart);
+    let g = frame.shape;
+    let n = read_and_walk(s, net, w, g);
+    let vias = choose_layers(w, g, n, frame.limits, chart);
     write_layers(w, g, n, out);
     vias
 }

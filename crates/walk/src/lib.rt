@@ -13,21 +13,28 @@ ghost use Rattle.model.specs.Job.{Job, Net};
 ghost use Rattle.walk.specs.Steps.{onward, fourWays, putWays, tileIn, marksIn, branchesIn, visited};
 ghost use Rattle.walk.specs.Walked.{Walks, WalkReady, Walked};
 
-// Writes the tile at the end of way d of tile x as place n, if the net goes there and it is not the way back. m has the marks of tile x.
-fn step(w: &mut [u32], g: Shape, x: usize, m: u32, above: usize, d: usize, n: usize) -> usize
+// A tile that is taken out: its marks, and the edge above it.
+pub struct Stop {
+    pub tile: usize,
+    pub marks: u32,
+    pub above: usize,
+}
+
+// Writes the tile at the end of way d of tile x as place n, if the net goes there and it is not the way back.
+fn step(w: &mut [u32], g: Shape, x: Stop, d: usize, n: usize) -> usize
     requires { ⌜ Shaped g ⌝ }
     requires { ⌜ areasEnd g ≤ length (now w) ⌝ }
     requires { ⌜ d < 4 ⌝ }
-    requires { ⌜ (bitOf m (8 + d) ≡ true → WayRoom g x d) ⌝ }
-    requires { ⌜ n + length (onward g x m above (d ∷ [])) ≤ g .m ⌝ }
-    ensures { λ r. ⌜ r ≡ n + length (onward g x m above (d ∷ [])) ⌝ }
-    ensures { λ _. ⌜ now (w .exit) ≡ putWays (stopsAt g) (g .m) (now (w .entry)) n (onward g x m above (d ∷ [])) ⌝ }
+    requires { ⌜ (bitOf (x .marks) (8 + d) ≡ true → WayRoom g (x .tile) d) ⌝ }
+    requires { ⌜ n + length (onward g (x .tile) (x .marks) (x .above) (d ∷ [])) ≤ g .m ⌝ }
+    ensures { λ r. ⌜ r ≡ n + length (onward g (x .tile) (x .marks) (x .above) (d ∷ [])) ⌝ }
+    ensures { λ _. ⌜ now (w .exit) ≡ putWays (stopsAt g) (g .m) (now (w .entry)) n (onward g (x .tile) (x .marks) (x .above) (d ∷ [])) ⌝ }
 {
-    if !marks::bit(m, (marks::WAYS + d) as u32) {
+    if !marks::bit(x.marks, (marks::WAYS + d) as u32) {
         return n;
     }
-    let y = layout::way_out(g, x, d);
-    if y.edge == above {
+    let y = layout::way_out(g, x.tile, d);
+    if y.edge == x.above {
         return n;
     }
     w[layout::stops_at(g) + n] = y.tile as u32;
@@ -36,17 +43,17 @@ fn step(w: &mut [u32], g: Shape, x: usize, m: u32, above: usize, d: usize, n: us
 }
 
 // Writes the branches of tile x from place n on: its four ways in order. Returns where they end.
-fn branches(w: &mut [u32], g: Shape, x: usize, m: u32, above: usize, n: usize) -> usize
+fn branches(w: &mut [u32], g: Shape, x: Stop, n: usize) -> usize
     requires { ⌜ Shaped g ⌝ }
     requires { ⌜ areasEnd g ≤ length (now w) ⌝ }
-    requires { ⌜ ((d : ℕ) → d < 4 → bitOf m (8 + d) ≡ true → WayRoom g x d) ⌝ }
-    requires { ⌜ n + length (onward g x m above fourWays) ≤ g .m ⌝ }
-    ensures { λ r. ⌜ r ≡ n + length (onward g x m above fourWays) ⌝ }
-    ensures { λ _. ⌜ now (w .exit) ≡ putWays (stopsAt g) (g .m) (now (w .entry)) n (onward g x m above fourWays) ⌝ }
+    requires { ⌜ ((d : ℕ) → d < 4 → bitOf (x .marks) (8 + d) ≡ true → WayRoom g (x .tile) d) ⌝ }
+    requires { ⌜ n + length (onward g (x .tile) (x .marks) (x .above) fourWays) ≤ g .m ⌝ }
+    ensures { λ r. ⌜ r ≡ n + length (onward g (x .tile) (x .marks) (x .above) fourWays) ⌝ }
+    ensures { λ _. ⌜ now (w .exit) ≡ putWays (stopsAt g) (g .m) (now (w .entry)) n (onward g (x .tile) (x .marks) (x .above) fourWays) ⌝ }
 {
     let mut end = n;
     for d in 0..4 {
-        end = step(w, g, x, m, above, d, end);
+        end = step(w, g, x, d, end);
     }
     end
 }
@@ -78,7 +85,12 @@ fn visit(w: &mut [u32], g: Shape, stamp: u32, i: usize, n: usize) -> usize
     let x = w[layout::stops_at(g) + i] as usize;
     let above = w[layout::above_at(g) + i] as usize;
     let m = latest_bits(w[layout::tiles_at(g) + x], stamp);
-    let end = branches(w, g, x, m, above, n);
+    let stop = Stop {
+        tile: x,
+        marks: m,
+        above,
+    };
+    let end = branches(w, g, stop, n);
     w[layout::engine_at(g) + i] = end as u32;
     w[layout::engine_at(g) + g.m + i] = m % 256;
     end

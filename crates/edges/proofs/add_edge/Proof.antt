@@ -29,7 +29,7 @@ module _ (k : tie.After-way-on) where
   start = k .before .before .before
 
   abbrev entry : Triple
-  entry = triple (start .args .x) (start .args .y) (start .args .d)
+  entry = triple (start .args .e .x) (start .args .e .y) (start .args .e .z)
 
   abbrev here : ℕ
   here = k .before .tile-at .result
@@ -40,46 +40,51 @@ module _ (k : tie.After-way-on) where
   abbrev edge : ℕ
   edge = k .way-on .result .edge
 
-  is-way : start .args .d ≤ 1
+  is-way : start .args .e .z ≤ 1
   is-way = start .pre .1 .0 .3
 
-  is-inside : edgeInside (start .args .g .w) (start .args .g .h) (triple (start .args .x) (start .args .y) (start .args .d)) ≡ true
+  is-inside : edgeInside (start .args .g .w) (start .args .g .h) (triple (start .args .e .x) (start .args .e .y) (start .args .e .z)) ≡ true
   is-inside = start .pre .1 .0 .4
 
   here-is : here ≡ startOf (start .args .g) entry
   here-is = k .before .tile-at .ensures .0
 
-  there-is : there ≡ wayOf (start .args .g) here (start .args .d) .tile
+  there-is : there ≡ wayOf (start .args .g) here (start .args .e .z) .tile
   there-is = ap (λ (z : Way). z .tile) (k .way-on .ensures)
 
-  edge-is : edge ≡ wayOf (start .args .g) here (start .args .d) .edge
+  edge-is : edge ≡ wayOf (start .args .g) here (start .args .e .z) .edge
   edge-is = ap (λ (z : Way). z .edge) (k .way-on .ensures)
 
 tile-at-requires : tie.Need-tile-at-requires
 tile-at-requires c κs =
     let x = c .before .args in
     let p = c .before .pre in
-    let at = placed (x .g) (p .0) (triple (x .x) (x .y) (x .d)) (p .1 .0 .4) (p .1 .0 .3) in
+    let at = placed (x .g) (p .0) (triple (x .e .x) (x .e .y) (x .e .z)) (p .1 .0 .4) (p .1 .0 .3) in
     (p .0, (at .column, at .row))
 
 way-on-requires : tie.Need-way-on-requires
 way-on-requires c κs =
     let x = c .before .before .args in
     let p = c .before .before .pre in
-    let at = placed (x .g) (p .0) (triple (x .x) (x .y) (x .d)) (p .1 .0 .4) (p .1 .0 .3) in
+    let at = placed (x .g) (p .0) (triple (x .e .x) (x .e .y) (x .e .z)) (p .1 .0 .4) (p .1 .0 .3) in
     let h = c .tile-at .ensures in
-    (p .0, (h .1, ap (λ (t : ℕ). t / x .g .w) (h .0) ∙ row-of (x .g .w) (x .x) (x .y) (at .column), p .1 .0 .3))
+    (p .0, (h .1, ap (λ (t : ℕ). t / x .g .w) (h .0) ∙ row-of (x .g .w) (x .e .x) (x .e .y) (at .column), p .1 .0 .3))
 
 put-marks-requires : tie.Need-put-marks-requires
 put-marks-requires c κs =
-    let k = c .before .before in
+    let k : tie.After-way-on = c .before .before .before in
     let p = start k .pre in
     (p .0, (p .1 .0 .0, here-inside (start k .args .g) (start k .pre .0) (start k .args .stamp) (entry k) (is-inside k) (is-way k) (here k) (there k) (edge k) (here-is k) (there-is k) (edge-is k), there-inside (start k .args .g) (start k .pre .0) (start k .args .stamp) (entry k) (is-inside k) (is-way k) (here k) (there k) (edge k) (here-is k) (there-is k) (edge-is k), p .1 .0 .3, p .1 .0 .1))
 
+-- the edge is marked, or there twice
+abbrev way : tie.After-put-marks → tie.After-way-on
+way c = c .before .before .before .before
+
 returns-2 : tie.Need-returns-2
 returns-2 c =
-    let k = c .before .before .before .before .before .before .before in
-    let m = c .before .before .before .before .put-marks in (
+    let marked : tie.After-put-marks = c .before .before .before .before in
+    let k = way marked in
+    let m = marked .put-marks in (
       λ ps w₀ ts s.
           add-twice (start k .args .g) (start k .pre .0) (start k .args .stamp) (entry k) (is-inside k) (is-way k) (here k) (there k) (edge k) (here-is k) (there-is k) (edge-is k) (start k .args .w .now) (start k .pre .1 .0 .0)
           (sym (c .enum-told .given .1) ∙ m .ensures .0) (start k .args .v .judged) (start k .pre .1 .1 .1) ps w₀ ts (start k .args .v .parts) (start k .args .v .parts) (m .last .0) s,
@@ -89,8 +94,11 @@ returns-2 c =
 -- ---- a new edge
 
 module _ (q : tie.After-known-told) where
+  abbrev marked : tie.After-put-marks
+  marked = q .before .before .before .before .before
+
   abbrev out : tie.After-way-on
-  out = q .before .before .before .before .before .before .before .before
+  out = way marked
 
   -- how many of its tiles are new
   abbrev new : ℕ
@@ -98,19 +106,19 @@ module _ (q : tie.After-known-told) where
 
   -- the working numbers after its marks
   abbrev first : List ℕ
-  first = q .before .before .before .before .before .put-marks .last .0
+  first = marked .put-marks .last .0
 
-  found-new : New new ≡ endsOf (start out .args .stamp) (tilesOf (start out .args .g) (start out .args .w .now)) (here out) (there out) (start out .args .d)
-  found-new = sym (q .before .k .given .1) ∙ q .before .before .before .before .before .put-marks .ensures .0
+  found-new : New new ≡ endsOf (start out .args .stamp) (tilesOf (start out .args .g) (start out .args .w .now)) (here out) (there out) (start out .args .e .z)
+  found-new = sym (q .before .k .given .1) ∙ marked .put-marks .ensures .0
 
   few : new ≤ 2
   few = new-few (start out .args .g) (start out .pre .0) (start out .args .stamp) (entry out) (is-inside out) (is-way out) (here out) (there out) (edge out) (here-is out) (there-is out) (edge-is out) (start out .args .w .now) (start out .pre .1 .0 .0) new found-new
 
   marks-out : Outside (tilesAt (start out .args .g)) (start out .args .g .t) (start out .args .w .now) first
-  marks-out = q .before .before .before .before .before .put-marks .ensures .1 .1
+  marks-out = marked .put-marks .ensures .1 .1
 
-  marks-are : tilesOf (start out .args .g) first ≡ endsAfter (start out .args .stamp) (tilesOf (start out .args .g) (start out .args .w .now)) (here out) (there out) (start out .args .d)
-  marks-are = q .before .before .before .before .before .put-marks .ensures .1 .0
+  marks-are : tilesOf (start out .args .g) first ≡ endsAfter (start out .args .stamp) (tilesOf (start out .args .g) (start out .args .w .now)) (here out) (there out) (start out .args .e .z)
+  marks-are = marked .put-marks .ensures .1 .0
 
   known : edge out < start out .args .g .e
   known = edge-inside (start out .args .g) (start out .pre .0) (start out .args .stamp) (entry out) (is-inside out) (is-way out) (here out) (there out) (edge out) (here-is out) (there-is out) (edge-is out)

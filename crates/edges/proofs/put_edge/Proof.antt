@@ -15,13 +15,13 @@ module _ (m : tie.Else1) where
   abbrev start : tie.Start
   start = m .before .before .before .before
 
-  is-inside : edgeInside (start .args .g .w) (start .args .g .h) (triple (start .args .x) (start .args .y) (start .args .d)) ≡ true
+  is-inside : edgeInside (start .args .g .w) (start .args .g .h) (triple (start .args .e .x) (start .args .e .y) (start .args .e .z)) ≡ true
   is-inside = sym (m .before .inside .ensures) ∙ not-false _ (m .if1 .left)
 
 returns : tie.Need-returns
 returns c =
     let x = c .before .before .before .before .args in
-    (λ ps w₀ ts s. all-out (x .g) ts (triple (x .x) (x .y) (x .d)) (sym (c .before .inside .ensures) ∙ not-true _ (c .if1 .taken)), (refl, refl))
+    (λ ps w₀ ts s. all-out (x .g) ts (triple (x .e .x) (x .e .y) (x .e .z)) (sym (c .before .inside .ensures) ∙ not-true _ (c .if1 .taken)), (refl, refl))
 
 add-edge-requires : tie.Need-add-edge-requires
 add-edge-requires c κs =
@@ -34,7 +34,7 @@ returns-3 : tie.Need-returns-3
 returns-3 c =
     let m = c .before .before in
     let x = start m .args in
-    (λ ps w₀ ts s. after-stop (x .g) (x .stamp) ps w₀ ts (x .v .parts) (x .w .now) (triple (x .x) (x .y) (x .d)) (x .v .judged) (sym (c .before .goes-on .ensures) ∙ c .if2 .left) (is-inside m) s, (refl, refl))
+    (λ ps w₀ ts s. after-stop (x .g) (x .stamp) ps w₀ ts (x .v .parts) (x .w .now) (triple (x .e .x) (x .e .y) (x .e .z)) (x .v .judged) (sym (c .before .goes-on .ensures) ∙ c .if2 .left) (is-inside m) s, (refl, refl))
 
 pub put-edge-spec : {M : Type 1} → statement M
 put-edge-spec =

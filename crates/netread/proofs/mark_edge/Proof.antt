@@ -10,21 +10,26 @@ tile-at-requires : tie.Need-tile-at-requires
 tile-at-requires c κs =
     let x = c .before .args in
     let r = c .before .pre in
-    let p = at (x .g) (r .0) (x .x) (x .y) (x .d) (r .1 .0 .3) (r .1 .0 .4) in
+    let p = at (x .g) (r .0) (x .e .x) (x .e .y) (x .e .third) (r .1 .0 .3) (r .1 .0 .4) in
     (r .0, (p .column, p .row))
+
+-- the edge's way is known
+abbrev start : tie.After-way-out → tie.Start
+start c = c .before .before .before
 
 mark-ways-requires : tie.Need-mark-ways-requires
 mark-ways-requires c κs =
-    let x = c .before .before .before .before .args in
-    let r = c .before .before .before .before .pre in
-    let t = c .before .before .tile-at in
-    let o = c .before .way-out in (
+    let k : tie.After-way-out = c .before .before in
+    let x = start k .args in
+    let r = start k .pre in
+    let t = k .before .tile-at in
+    let o = k .way-out in (
       r .0,
       (
         (
           r .1 .0 .0,
           t .ensures .1,
-          there-in (x .g) (r .0) (x .x) (x .y) (x .d) (r .1 .0 .3) (r .1 .0 .4) (t .result) (t .ensures .0) (o .result) (o .ensures),
+          there-in (x .g) (r .0) (x .e .x) (x .e .y) (x .e .third) (r .1 .0 .3) (r .1 .0 .4) (t .result) (t .ensures .0) (o .result) (o .ensures),
           r .1 .0 .3,
           r .1 .0 .1,
         ),
@@ -32,25 +37,34 @@ mark-ways-requires c κs =
       ),
     )
 
+-- it is marked
+abbrev way : tie.After-mark-ways → tie.After-way-out
+way c = c .before .before .before
+
+-- the same, seen from where it is listed
+abbrev marked : tie.After-list-at → tie.After-mark-ways
+marked c = c .before .before .before
+
 cast-w : tie.Need-cast-w
 cast-w c =
-    let z = c .before .before .before .before .before .before .before .before .before .before in
-    let x = z .args in
-    let r = z .pre in
-    let t = c .before .before .before .before .before .before .before .before .tile-at in
-    let o = c .before .before .before .before .before .before .before .way-out in
-    omega (arith, edge-small (x .g) (r .0) (x .x) (x .y) (x .d) (r .1 .0 .3) (r .1 .0 .4) (t .result) (t .ensures .0) (o .result) (o .ensures))
+    let k = way (marked (c .before .before)) in
+    let x = start k .args in
+    let r = start k .pre in
+    let t = k .before .tile-at in
+    let o = k .way-out in
+    omega (arith, edge-small (x .g) (r .0) (x .e .x) (x .e .y) (x .e .third) (r .1 .0 .3) (r .1 .0 .4) (t .result) (t .ensures .0) (o .result) (o .ensures))
 
 returns : tie.Need-returns
 returns c =
-    let z = c .before .before .before .before .before .before .before .before .before .before .before .before in
-    let x = z .args in
-    let r = z .pre in
-    let t = c .before .before .before .before .before .before .before .before .before .before .tile-at in
-    let o = c .before .before .before .before .before .before .before .before .before .way-out in
-    let m = c .before .before .before .before .before .before .before .mark-ways in
-    let l = c .before .before .before .before .list-at in
-    edge-marked (x .g) (r .0) (x .x) (x .y) (x .d) (r .1 .0 .3) (r .1 .0 .4) (t .result) (t .ensures .0) (o .result) (o .ensures)
+    let a : tie.After-list-at = c .before .before .before .before in
+    let m = marked a .mark-ways in
+    let k = way (marked a) in
+    let x = start k .args in
+    let r = start k .pre in
+    let t = k .before .tile-at in
+    let o = k .way-out in
+    let l = a .list-at in
+    edge-marked (x .g) (r .0) (x .e .x) (x .e .y) (x .e .third) (r .1 .0 .3) (r .1 .0 .4) (t .result) (t .ensures .0) (o .result) (o .ensures)
     (x .stamp) (x .v) (r .1 .0 .2) (x .w .now) (m .last .0) (r .1 .0 .0) (m .ensures .0) (m .ensures .1) (l .result) (c .before .lower .result) (l .ensures .0) (c .before .lower .ensures)
 
 pub mark-edge-spec : {M : Type 1} → statement M

@@ -14,26 +14,28 @@ use Rattle.pins.proofs.put_pin.Statement.{statement}
 use Rattle.pins.proofs.put_pin.Tie as tie
 
 -- the pin is inside
-is : (e : tie.Else1) → pinInside (e .before .before .before .args .g .w) (e .before .before .before .args .g .h) (e .before .before .before .args .g .k) (triple (e .before .before .before .args .x) (e .before .before .before .args .y) (e .before .before .before .args .l)) ≡ true
-is e = sym (e .before .inside .ensures) ∙ not-false _ (e .if1 .left)
+module _ (c : tie.Else1) where
+  abbrev start : tie.Start
+  start = c .before .before .before
 
-ins : (e : tie.Else1)
-    → (e .before .before .before .args .x < e .before .before .before .args .g .w) × (e .before .before .before .args .y < e .before .before .before .args .g .h)
-    × (1 ≤ e .before .before .before .args .l) × (e .before .before .before .args .l ≤ e .before .before .before .args .g .k)
-ins e = inside-is _ _ _ _ _ _ (is e)
+  is : pinInside (start .args .g .w) (start .args .g .h) (start .args .g .k) (triple (start .args .e .x) (start .args .e .y) (start .args .e .z)) ≡ true
+  is = sym (c .before .inside .ensures) ∙ not-false _ (c .if1 .left)
+
+  ins : (start .args .e .x < start .args .g .w) × (start .args .e .y < start .args .g .h) × (1 ≤ start .args .e .z) × (start .args .e .z ≤ start .args .g .k)
+  ins = inside-is _ _ _ _ _ _ is
 
 returns : tie.Need-returns
 returns c =
     let x = c .before .before .before .before .args in
-    put-outside (x .g) (x .stamp) (x .a .now) (x .v) (x .x) (x .y) (x .l) (sym (c .before .before .inside .ensures) ∙ not-true _ (c .before .if1 .taken))
+    put-outside (x .g) (x .stamp) (x .a .now) (x .v) (x .e .x) (x .e .y) (x .e .z) (sym (c .before .before .inside .ensures) ∙ not-true _ (c .before .if1 .taken))
 
 tile-at-requires : tie.Need-tile-at-requires
-tile-at-requires c κs = (c .before .before .before .pre .0, (ins c .0, ins c .1))
+tile-at-requires c κs = (start c .pre .0, (ins c .0, ins c .1))
 
 mark-pin-requires : tie.Need-mark-pin-requires
 mark-pin-requires c κs =
     let i = ins (c .before .before) in
-    let p = c .before .before .before .before .before .pre in
+    let p = start (c .before .before) .pre in
     (omega (arith, c .before .tile-at .ensures .1, p .1 .0), i .2, omega (arith, i .3, p .0 .k-most), p .1 .1, p .1 .2, p .1 .3)
 
 returns-2 : tie.Need-returns-2
@@ -41,8 +43,8 @@ returns-2 c =
     let m = c .before .before in
     let t = m .before .before in
     let e = t .before in
-    let x = e .before .before .before .args in
-    put-inside (x .g) (x .stamp) (x .a .now) (x .v) (x .x) (x .y) (x .l) (is e) (t .tile-at .result) (t .tile-at .ensures .0) (m .mark-pin .result) (m .mark-pin .last .0) (m .mark-pin .ensures .0) (m .mark-pin .ensures .1)
+    let x = start e .args in
+    put-inside (x .g) (x .stamp) (x .a .now) (x .v) (x .e .x) (x .e .y) (x .e .z) (is e) (t .tile-at .result) (t .tile-at .ensures .0) (m .mark-pin .result) (m .mark-pin .last .0) (m .mark-pin .ensures .0) (m .mark-pin .ensures .1)
 
 pub put-pin-spec : {M : Type 1} → statement M
 put-pin-spec =

@@ -6,20 +6,26 @@ use Rattle.planning.proofs.Steps.{rows-there, text-fits, print-made}
 use Rattle.planning.proofs.print_nets.Statement.{statement}
 use Rattle.planning.proofs.print_nets.Tie as tie
 
+-- the nets are placed, seen from before and from behind the print
+abbrev first : tie.After-place-nets → tie.Start
+first c = c .before .before .before .before .before .before .before .before .before
+
+abbrev placed : tie.After-put-plan-arg3 → tie.After-place-nets
+placed c = c .before .before .before .before .before .before .before .before .before
+
 put-plan-requires : tie.Need-put-plan-requires
 put-plan-requires c κs =
-    let p = c .before .before .before .before .before .before .before .before .before .place-nets in
-    let z = c .before .before .before .before .before .before .before .before .before .before .before .before .before .before .before .before .before .before in
-    let x = z .args in
-    let o = z .pre in
+    let p = placed c .place-nets in
+    let x = first (placed c) .args in
+    let o = first (placed c) .pre in
     let made = p .ensures .0 (o .lent) (o .job) (o .turned) in
     (rows-there (x .s .now) (x .h) (x .w .now) (x .table .now) (x .answer .now) (p .last .1 .1 .1 .1 .0) (p .last .1 .1 .1 .0) (p .result) (o .lent) (o .job) (o .turned) made, text-fits (x .s .now) (x .h) (x .w .now) (x .table .now) (x .answer .now) (p .last .1 .1 .1 .1 .0) (p .last .1 .1 .1 .0) (p .result) (o .lent) (o .job) (o .turned) made (x .out .now) (o .bytes-room))
 
 returns : tie.Need-returns
 returns c =
-    let q = c .before .before in
-    let p = q .before .before .before .before .before .before .before .before .before .before .place-nets in
-    let x = q .before .before .before .before .before .before .before .before .before .before .before .before .before .before .before .before .before .before .before .args in (
+    let q : tie.After-put-plan = c .before .before in
+    let p = placed (q .before) .place-nets in
+    let x = first (placed (q .before)) .args in (
       record {
         totals = p .result;
         size = q .put-plan .result;

@@ -23,17 +23,17 @@ put-plan-spec =
     tie.close
     (tie.spec
     (λ c κs. let s = c .before .before .before .before in (
-      rows-turns (s .args .n) (s .args .table .now) (s .args .answer .now) (s .pre .0),
-      room-one 0 (printLine "order" (turnsOf (s .args .table .now) (s .args .n))) (netsText (s .args .table .now) (s .args .answer .now) 0 (s .args .n))
-          (totalsText (s .args .vias) (s .args .total) (s .args .most)) (s .args .b .now) (omega (arith, s .pre .1)),
+      rows-turns (s .args .p .nets) (s .args .table .now) (s .args .answer .now) (s .pre .0),
+      room-one 0 (printLine "order" (turnsOf (s .args .table .now) (s .args .p .nets))) (netsText (s .args .table .now) (s .args .answer .now) 0 (s .args .p .nets))
+          (totalsText (s .args .p .vias) (s .args .p .total) (s .args .p .most)) (s .args .b .now) (omega (arith, s .pre .1)),
     ))
     (λ c κs. let a = c .before .before .before in let s = start a in (
       s .pre .0,
-      room-two 0 (printLine "order" (turnsOf (s .args .table .now) (s .args .n))) (netsText (s .args .table .now) (s .args .answer .now) 0 (s .args .n))
-          (totalsText (s .args .vias) (s .args .total) (s .args .most)) (s .args .b .now) (omega (arith, s .pre .1)) (a .put-order .ensures),
+      room-two 0 (printLine "order" (turnsOf (s .args .table .now) (s .args .p .nets))) (netsText (s .args .table .now) (s .args .answer .now) 0 (s .args .p .nets))
+          (totalsText (s .args .p .vias) (s .args .p .total) (s .args .p .most)) (s .args .b .now) (omega (arith, s .pre .1)) (a .put-order .ensures),
     ))
     (λ c κs. let a = c .before .before .before in let s = start (first a) in
-    room-three 0 (printLine "order" (turnsOf (s .args .table .now) (s .args .n))) (netsText (s .args .table .now) (s .args .answer .now) 0 (s .args .n))
-    (totalsText (s .args .vias) (s .args .total) (s .args .most)) (s .args .b .now) (omega (arith, s .pre .1)) (first a .put-order .ensures) (a .put-nets .ensures))
+    room-three 0 (printLine "order" (turnsOf (s .args .table .now) (s .args .p .nets))) (netsText (s .args .table .now) (s .args .answer .now) 0 (s .args .p .nets))
+    (totalsText (s .args .p .vias) (s .args .p .total) (s .args .p .most)) (s .args .b .now) (omega (arith, s .pre .1)) (first a .put-order .ensures) (a .put-nets .ensures))
     (λ c. search needs)
     (λ c. from-start (wrote-then (wrote-then (first (second (c .before .before)) .put-order .ensures) (second (c .before .before) .put-nets .ensures)) (c .before .before .put-totals .ensures))))

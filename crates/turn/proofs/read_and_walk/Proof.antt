@@ -16,16 +16,16 @@ read-net-requires c κs =
     let x = z .args in
     let r = z .pre in
     let b = r .1 .1 in
-    (r .0, ((r .1 .0 .0, r .1 .0 .1, b .before .older), net-there (x .s .now) (x .pins) (x .edges) (x .g) (r .0) (x .stamp) (x .w .now) (b .turn) (b .before)))
+    (r .0, ((r .1 .0 .0, r .1 .0 .1, b .before .older), net-there (x .s .now) (x .net .pins) (x .net .edges) (x .g) (r .0) (x .net .stamp) (x .w .now) (b .turn) (b .before)))
 
 -- the net whose turn it is, once it is read
 module _ (c : tie.After-read-net) where
   abbrev z : tie.Start
   z = c .before .before .before .before
 
-  net-read : (u : Turn) → Before (z .args .s .now) (z .args .pins) (z .args .edges) (z .args .g) (z .args .stamp) (z .args .w .now) u
-      → NetRead (z .args .g) (z .args .stamp) (u .job) (turnNet u) (z .args .w .now) (c .read-net .last .1 .1 .1 .0) (c .read-net .result)
-  net-read u b = c .read-net .ensures (u .job) (turnNet u) (lines-of (z .args .s .now) (z .args .pins) (z .args .edges) (z .args .g) (z .pre .0) (z .args .stamp) (z .args .w .now) u b)
+  net-read : (u : Turn) → Before (z .args .s .now) (z .args .net .pins) (z .args .net .edges) (z .args .g) (z .args .net .stamp) (z .args .w .now) u
+      → NetRead (z .args .g) (z .args .net .stamp) (u .job) (turnNet u) (z .args .w .now) (c .read-net .last .1 .1 .1 .0) (c .read-net .result)
+  net-read u b = c .read-net .ensures (u .job) (turnNet u) (lines-of (z .args .s .now) (z .args .net .pins) (z .args .net .edges) (z .args .g) (z .pre .0) (z .args .net .stamp) (z .args .w .now) u b)
 
 walk-requires : tie.Need-walk-requires
 walk-requires c κs =
@@ -41,7 +41,7 @@ walk-requires c κs =
           record {
             job = b .turn .job;
             net = turnNet (b .turn);
-            walks = net-walks (x .s .now) (x .pins) (x .edges) (x .g) (r .0) (x .stamp) (x .w .now) (b .turn) (b .before) (d .read-net .last .1 .1 .1 .0) (d .read-net .result) read;
+            walks = net-walks (x .s .now) (x .net .pins) (x .net .edges) (x .g) (r .0) (x .net .stamp) (x .w .now) (b .turn) (b .before) (d .read-net .last .1 .1 .1 .0) (d .read-net .result) read;
           },
           r .1 .0 .1,
         ),
@@ -53,12 +53,12 @@ module _ (c : tie.After-walk) where
   abbrev d : tie.After-read-net
   d = c .before .before .before .before
 
-  walks : (u : Turn) → Before (z d .args .s .now) (z d .args .pins) (z d .args .edges) (z d .args .g) (z d .args .stamp) (z d .args .w .now) u
+  walks : (u : Turn) → Before (z d .args .s .now) (z d .args .net .pins) (z d .args .net .edges) (z d .args .g) (z d .args .net .stamp) (z d .args .w .now) u
       → Walked (z d .args .g) (u .job) (turnNet u) (d .read-net .last .1 .1 .1 .0) (c .walk .last .0) (c .walk .result)
   walks u b =
       let x = z d .args in
       c .walk .ensures (u .job) (turnNet u)
-      (net-walks (x .s .now) (x .pins) (x .edges) (x .g) (z d .pre .0) (x .stamp) (x .w .now) u b (d .read-net .last .1 .1 .1 .0) (d .read-net .result) (net-read d u b))
+      (net-walks (x .s .now) (x .net .pins) (x .net .edges) (x .g) (z d .pre .0) (x .net .stamp) (x .w .now) u b (d .read-net .last .1 .1 .1 .0) (d .read-net .result) (net-read d u b))
 
   long : length (c .walk .last .0) ≡ length (z d .args .w .now)
   long = let b = z d .pre .1 .1 in walks (b .turn) (b .before) .outside .long ∙ net-read d (b .turn) (b .before) .elsewhere .long
@@ -68,7 +68,7 @@ returns c =
     let e = c .before .before in
     let x = z (d e) .args in (
       λ u b.
-          net-walked (x .s .now) (x .pins) (x .edges) (x .g) (z (d e) .pre .0) (x .stamp) (x .w .now) u b (d e .read-net .last .1 .1 .1 .0) (d e .read-net .result) (net-read (d e) u b)
+          net-walked (x .s .now) (x .net .pins) (x .net .edges) (x .g) (z (d e) .pre .0) (x .net .stamp) (x .w .now) u b (d e .read-net .last .1 .1 .1 .0) (d e .read-net .result) (net-read (d e) u b)
           (e .walk .last .0) (e .walk .result) (walks e u b),
       long e,
     )

@@ -18,38 +18,39 @@ module _ (e : tie.Else1) where
   abbrev start : tie.Start
   start = e .before .before .before
 
-  used : bitOf (start .args .m) (8 + start .args .d) ≡ true
+  used : bitOf (start .args .x .marks) (8 + start .args .d) ≡ true
   used = sym (e .before .bit .ensures) ∙ not-false _ (e .if1 .left)
 
-  room : WayRoom (start .args .g) (start .args .x) (start .args .d)
+  room : WayRoom (start .args .g) (start .args .x .tile) (start .args .d)
   room = start .pre .1 .1 .1 .0 used
 
 -- and it is not the way back
 module _ (e : tie.Else2) where
   abbrev out : tie.After-way-out
-  out = e .before .before
+  out = e .before .before .before
 
   abbrev begin : tie.Start
   begin = start (out .before)
 
-  way-is : out .way-out .result ≡ wayOf (begin .args .g) (begin .args .x) (begin .args .d)
+  way-is : out .way-out .result ≡ wayOf (begin .args .g) (begin .args .x .tile) (begin .args .d)
   way-is = out .way-out .ensures
 
   small : (out .way-out .result .tile < 8192) × (out .way-out .result .edge < 16384)
-  small = rw way-is (way-small (begin .args .g) (begin .pre .0) (begin .args .x) (begin .args .d) (room (out .before) .tile))
+  small = rw way-is (way-small (begin .args .g) (begin .pre .0) (begin .args .x .tile) (begin .args .d) (room (out .before) .tile))
 
 returns : tie.Need-returns
 returns c =
     let x = c .before .before .before .args in
-    step-unused (x .g) (x .x) (x .m) (x .above) (x .d) (x .n) (x .w .now) (sym (c .before .bit .ensures) ∙ not-true _ (c .if1 .taken))
+    step-unused (x .g) (x .x .tile) (x .x .marks) (x .x .above) (x .d) (x .n) (x .w .now) (sym (c .before .bit .ensures) ∙ not-true _ (c .if1 .taken))
 
 way-out-requires : tie.Need-way-out-requires
 way-out-requires c κs = (start c .pre .0, room c)
 
 returns-2 : tie.Need-returns-2
 returns-2 c =
-    let x = c .before .before .before .before .before .before .args in
-    step-back (x .g) (x .x) (x .m) (x .above) (x .d) (x .n) (x .w .now) (c .before .before .way-out .result) (c .before .before .way-out .ensures) (c .if2 .taken)
+    let o : tie.After-way-out = c .before .before .before in
+    let x = start (o .before) .args in
+    step-back (x .g) (x .x .tile) (x .x .marks) (x .x .above) (x .d) (x .n) (x .w .now) (o .way-out .result) (o .way-out .ensures) (c .if2 .taken)
 
 cast-w : tie.Need-cast-w
 cast-w c = omega (arith, small (c .before))
@@ -66,7 +67,7 @@ returns-3 : tie.Need-returns-3
 returns-3 c =
     let e = c .before .before .before .before in
     let x = begin e .args in
-    step-on (x .g) (x .x) (x .m) (x .above) (x .d) (x .n) (x .w .now) (used (out e .before)) (out e .way-out .result) (way-is e) (e .if2 .left)
+    step-on (x .g) (x .x .tile) (x .x .marks) (x .x .above) (x .d) (x .n) (x .w .now) (used (out e .before)) (out e .way-out .result) (way-is e) (e .if2 .left)
     (c .before .before .stops-at .result) (c .above-at .result) (c .before .before .stops-at .ensures .0) (c .above-at .ensures .0)
 
 pub step-spec : {M : Type 1} → statement M
