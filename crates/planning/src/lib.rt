@@ -122,7 +122,8 @@ fn place_nets(s: &[u8], h: Head, w: &mut [u32], table: &mut [u32], answer: &mut 
     let shape = h.shape;
     let flat = flat::overflows(w, shape);
     let limits = flat::limits_of(flat.most, shape.k);
-    let chart = sets::chart();
+    let mut chart = [0u32; 256];
+    sets::fill_chart(&mut chart);
     let job = ToPlace {
         frame: Frame { shape, limits },
         nets: h.nets,

@@ -1,6 +1,7 @@
 // Sets of layers as masks, with digit l - 1 for layer l, and what a tile with such a set costs.
 ghost use mathlib.Core.Path.{_≡_};
 ghost use Prim.Native.Nat.{suc, _-_, _<_, _≤_};
+ghost use lib.ListN.{length};
 ghost use Rattle.sets.specs.Mask.{withLayer, spanOf, top, bottom, Charted};
 
 // The set with layer l.
@@ -42,15 +43,14 @@ fn set_cost(mask: u32) -> u32
     highest(mask) - lowest(mask)
 }
 
-// The vias of every set of layers, by mask. Filled once in a call and lent to all that ask for the vias of a set.
-pub fn chart() -> [u32; 256]
-    ensures { λ r. ⌜ Charted spanOf r ⌝ }
+// Fills the chart: the vias of every set of layers, by mask. Once in a call, which then lends it to all that ask for the vias of a set.
+pub fn fill_chart(chart: &mut [u32; 256])
+    requires { ⌜ length (now chart) ≡ 256 ⌝ }
+    ensures { λ _. ⌜ Charted spanOf (now (chart .exit)) ⌝ }
 {
-    let mut c = [0u32; 256];
     for m in 0..256 {
-        c[m] = set_cost(m as u32);
+        chart[m] = set_cost(m as u32);
     }
-    c
 }
 
 // The vias of a set, from the lent chart.

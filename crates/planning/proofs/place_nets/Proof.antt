@@ -46,12 +46,12 @@ module _ (l : tie.After-limits-of) where
 
 place-all-requires : tie.Need-place-all-requires
 place-all-requires c κs =
-    let k : tie.After-chart = c .before .before .before .before in
-    let l : tie.After-limits-of = k .before in
+    let k : tie.After-fill-chart = c .before .before .before .before in
+    let l : tie.After-limits-of = k .before .before in
     let y = v l .overflows in
     let x = first (v l) .args in
     let o = first (v l) .pre in (
-      k .chart .ensures,
+      k .fill-chart .ensures,
       (
         o .turned .given .shaped,
         (
@@ -70,7 +70,7 @@ abbrev after-placing : tie.After-largest-limit → tie.After-place-all
 after-placing c = c .before .before .before .before .before .before .before
 
 abbrev limits : tie.After-place-all → tie.After-limits-of
-limits c = c .before .before .before .before .before .before
+limits c = c .before .before .before .before .before .before .before
 
 returns : tie.Need-returns
 returns c =
