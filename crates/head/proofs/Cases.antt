@@ -2,7 +2,7 @@
 -- Assumes nothing.
 use mathlib.Core.Path.{_≡_, ap}
 use mathlib.Core.List.{List}
-use Prim.Native.Nat.{ℕ, _+_, _*_, _≤_}
+use Prim.Native.Nat.{ℕ, _*_, _≤_}
 use native.Mathlib.Nat.{mul-assoc}
 use native.Mathlib.Omega.{arith}
 use lib.ListN.{drop}
@@ -17,7 +17,8 @@ use Rattle.lines.specs.declared.Field.{Field}
 use Rattle.lines.specs.declared.Field.the-variants.{Value}
 use Rattle.lines.specs.declared.Listed.{Listed}
 use Rattle.lines.specs.declared.Listed.the-variants.{Next}
-use Rattle.head.specs.Told.{Small, sizesHold, weightsHold, netsHold, beyondOf}
+use Rattle.capacities.specs.Told.{beyondOf}
+use Rattle.head.specs.Told.{Small, sizesHold, weightsHold, netsHold}
 use Rattle.head.specs.declared.Sizes.{Sizes}
 use Rattle.head.specs.declared.Sizes.the-variants.{Shape as sized}
 use Rattle.head.specs.declared.Weighed.{Weighed}

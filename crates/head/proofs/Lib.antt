@@ -1,5 +1,3 @@
 mod Stacks
 mod Fields
-mod Spreads
-mod Layers
 mod Cases

@@ -1,15 +1,14 @@
 -- The head of a job text: the lines from `width` through `nets`. The definitions' reading is that of the head and then that of the rest.
 -- Assumes nothing.
 use mathlib.Core.Path.{_≡_, refl}
-use mathlib.Core.Bool.{Bool, true, false, _&&_}
-use mathlib.Core.List.{List, [], _∷_, _++_}
+use mathlib.Core.Bool.{_&&_}
+use mathlib.Core.List.{List}
 use Prim.Native.Nat.{ℕ}
 use lib.Dec.{leb}
 use lib.ListN.{length}
-use Rattle.model.specs.Grid.{eastCount, northCount}
-use Rattle.model.specs.Job.{Net, Job, entryCount}
+use Rattle.model.specs.Job.{Job, entryCount}
 use Rattle.model.specs.Limits.{leastSide, mostSide, leastLayers, mostLayers, mostWeight, mostNets, mostText}
-use Rattle.model.specs.Read.{Place, Result, Reading, refused, found, next, _>>=_, _>>_, give, need, ranged, capacityLine, capacityLines, nets, Lent, workingNeed, printNeed, printFits, end, jobIn, read}
+use Rattle.model.specs.Read.{Place, Result, Reading, refused, found, next, _>>=_, _>>_, give, need, ranged, capacityLines, nets, Lent, workingNeed, printNeed, printFits, end, jobIn, read}
 use Rattle.layout.specs.Shapes.{shapeOf}
 use Rattle.layout.specs.declared.Shape.{Shape}
 use Rattle.head.specs.declared.Weights.{Weights}
@@ -46,13 +45,6 @@ weightsIn = do
   b ← ranged "beta" 0 mostWeight
   g ← ranged "gamma" 0 mostWeight
   give (record { alpha = a; beta = b; gamma = g })
-
--- the lines `east` and `north` of one layer
-unfoldable pub layerIn : ℕ → ℕ → Reading (List ℕ)
-layerIn W H = do
-  east ← capacityLine "east" (eastCount W H)
-  north ← capacityLine "north" (northCount W H)
-  give (east ++ north)
 
 -- the line `nets`; "10, the `nets` line: fewer order entries than N"
 unfoldable pub netsIn : ℕ → Reading ℕ

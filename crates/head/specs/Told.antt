@@ -2,11 +2,10 @@
 -- Assumes nothing.
 use mathlib.Core.Path.{_≡_, sym, ap, _∙_}
 use mathlib.Core.List.{List}
-use Prim.Native.Nat.{ℕ, _+_, _*_, _≤_}
+use Prim.Native.Nat.{ℕ, _*_, _≤_}
 use lib.ListN.{length, drop}
 use Rattle.model.specs.Limits.{mostWeight, mostNets}
-use Rattle.model.specs.Job.{Job}
-use Rattle.model.specs.Read.{Result, refused, found, next, Lent, workingNeed, read}
+use Rattle.model.specs.Read.{Result, found, next, Lent, workingNeed, read}
 use Rattle.theory.specs.links.JobText.{headLines}
 use Rattle.layout.specs.Shapes.{Shaped}
 use Rattle.layout.specs.declared.Shape.{Shape}
@@ -15,9 +14,7 @@ use Rattle.text.specs.declared.Cursor.{Cursor}
 use Rattle.lines.specs.Told.{refusedBy, After}
 use Rattle.lines.specs.declared.Field.{Field}
 use Rattle.lines.specs.declared.Field.the-variants.{Value, Refused}
-use Rattle.lines.specs.declared.Listed.{Listed}
-use Rattle.lines.specs.declared.Listed.the-variants.{Next, Refused as Unlisted}
-use Rattle.head.specs.Capacities.{capacitiesOf}
+use Rattle.capacities.specs.Capacities.{capacitiesOf}
 use Rattle.head.specs.Reads.{HeadJob, headIn, restIn, read-splits}
 use Rattle.head.specs.declared.Weights.{Weights}
 use Rattle.head.specs.declared.Head.{Head}
@@ -56,17 +53,6 @@ weightsHold size line (Unweighed r) = Unit {0}
 abbrev pub netsHold : ℕ → ℕ → ℕ → Field → Type 0
 netsHold size line order (Value n c) = (n ≤ mostNets) × (n ≤ order) × After size line c
 netsHold size line order (Refused r) = Unit {0}
-
--- ---- the capacities, by the working numbers w
-
-abbrev pub capacitiesTold : List ℕ → Shape → List ℕ → Listed → Result (List (List ℕ))
-capacitiesTold s g w (Next c) = found (capacitiesOf g w) (placeOf s c)
-capacitiesTold s g w (Unlisted r) = refusedBy r
-
--- what lies beyond the capacities is as it was
-abbrev pub beyondOf : Shape → List ℕ → List ℕ → Listed → Type 0
-beyondOf g w x (Next c) = drop (g .k * g .e) x ≡ drop (g .k * g .e) w
-beyondOf g w x (Unlisted r) = Unit {0}
 
 -- ---- the head
 

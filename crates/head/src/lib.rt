@@ -2,22 +2,20 @@
 use layout::Made;
 use layout::Shape;
 use layout::Stack;
-use lines::Column;
 use lines::Field;
 use lines::Listed;
 use text::Cursor;
 use text::Fault;
 use text::Refusal;
 ghost use mathlib.Core.Path.{_≡_};
-ghost use Prim.Native.Nat.{_+_, _*_, _<_, _≤_};
+ghost use Prim.Native.Nat.{_+_, _<_, _≤_};
 ghost use lib.ListN.{length};
-ghost use Rattle.model.specs.Read.{workingNeed, capacityLines};
+ghost use Rattle.model.specs.Read.{workingNeed};
 ghost use Rattle.layout.specs.Shapes.{Shaped};
 ghost use Rattle.text.specs.Refusals.{placeOf};
-ghost use Rattle.lines.specs.Spread.{spread};
-ghost use Rattle.lines.specs.Told.{fieldTold, listTold, listIn, mapped};
-ghost use Rattle.head.specs.Reads.{stackIn, sizesIn, weightsIn, layerIn, netsIn, bodyIn, headIn};
-ghost use Rattle.head.specs.Told.{sizesTold, sizesHold, weightsTold, weightsHold, netsHold, capacitiesTold, beyondOf, headTold, headHolds};
+ghost use Rattle.lines.specs.Told.{fieldTold};
+ghost use Rattle.head.specs.Reads.{stackIn, sizesIn, weightsIn, netsIn, bodyIn, headIn};
+ghost use Rattle.head.specs.Told.{sizesTold, sizesHold, weightsTold, weightsHold, netsHold, headTold, headHolds};
 
 // "W = width and H = height, 1 to 64"
 const LEAST_SIDE: usize = 1;
@@ -128,59 +126,6 @@ fn nets_line(s: &[u8], c: Cursor, order: usize) -> Field
     }
 }
 
-// Both capacity lines of one layer, 0 being the bottom one: edge e's capacity is stored at e * K + layer.
-fn layer_lines(s: &[u8], c: Cursor, w: &mut [u32], g: Shape, layer: usize) -> Listed
-    requires { ⌜ (c .at ≤ length (now s)) × (c .line < 100) ⌝ }
-    requires { ⌜ Shaped g ⌝ }
-    requires { ⌜ (layer < g .k) × (g .k * g .e ≤ length (now w)) ⌝ }
-    ensures { λ r. ⌜ listTold (now (s .entry)) (now (w .exit)) r ≡ mapped (spread (g .k) (now (w .entry)) layer) (layerIn (g .w) (g .h) (placeOf (now (s .entry)) c)) ⌝ }
-    ensures { λ r. ⌜ listIn (length (now (s .entry))) (c .line + 2) r ⌝ }
-    ensures { λ _. ⌜ length (now (w .exit)) ≡ length (now (w .entry)) ⌝ }
-{
-    let east = Column {
-        first: layer,
-        k: g.k,
-        count: g.east,
-    };
-    match lines::capacity_line(s, c, b"east=", w, east) {
-        Listed::Refused(r) => Listed::Refused(r),
-        Listed::Next(d) => {
-            let north = Column {
-                first: layer + g.east * g.k,
-                k: g.k,
-                count: g.e - g.east,
-            };
-            lines::capacity_line(s, d, b"north=", w, north)
-        }
-    }
-}
-
-// The capacity lines of all layers.
-fn capacities(s: &[u8], from: Cursor, w: &mut [u32], g: Shape) -> Listed
-    requires { ⌜ (from .at ≤ length (now s)) × (from .line < 50) ⌝ }
-    requires { ⌜ Shaped g ⌝ }
-    requires { ⌜ g .k * g .e ≤ length (now w) ⌝ }
-    ensures { λ r. ⌜ capacitiesTold (now (s .entry)) g (now (w .exit)) r ≡ capacityLines (g .w) (g .h) (g .k) (placeOf (now (s .entry)) from) ⌝ }
-    ensures { λ r. ⌜ beyondOf g (now (w .entry)) (now (w .exit)) r ⌝ }
-    ensures { λ r. ⌜ listIn (length (now (s .entry))) (from .line + 2 * g .k) r ⌝ }
-    ensures { λ _. ⌜ length (now (w .exit)) ≡ length (now (w .entry)) ⌝ }
-{
-    let mut c = from;
-    let mut layer = 0;
-    while layer < g.k {
-        match layer_lines(s, c, w, g, layer) {
-            Listed::Refused(r) => {
-                return Listed::Refused(r);
-            }
-            Listed::Next(d) => {
-                c = d;
-            }
-        }
-        layer += 1;
-    }
-    Listed::Next(c)
-}
-
 // The lines after `layers`, where the working numbers are as many as the job needs.
 fn read_body(s: &[u8], c: Cursor, w: &mut [u32], order: usize, g: Shape) -> HeadRead
     requires { ⌜ (c .at ≤ length (now s)) × (c .line ≡ 3) ⌝ }
@@ -192,7 +137,7 @@ fn read_body(s: &[u8], c: Cursor, w: &mut [u32], order: usize, g: Shape) -> Head
 {
     match read_weights(s, c) {
         Weighed::Refused(r) => HeadRead::Refused(r),
-        Weighed::Weights(v, d) => match capacities(s, d, w, g) {
+        Weighed::Weights(v, d) => match capacities::all_layers(s, d, w, g) {
             Listed::Refused(r) => HeadRead::Refused(r),
             Listed::Next(e) => match nets_line(s, e, order) {
                 Field::Refused(r) => HeadRead::Refused(r),

@@ -6,9 +6,9 @@ use Prim.Native.Nat.{ℕ, _+_, _≤_, _<_}
 use native.Mathlib.Omega.{arith}
 use borrow.Author.Tests.{eq-eqb, ne-eqb}
 use lib.ListN.{length, getD, List·getD-eq-default}
+use Rattle.text.specs.Entries.{endedAt}
 use Rattle.text.specs.Number.{numberAt}
 use Rattle.text.specs.declared.Numeral.the-variants.{Value, Malformed}
-use Rattle.lines.specs.Entries.{endedAt}
 
 module _ (s : List ℕ) (at end : ℕ) where
   pub ended-bad : numberAt s at ≡ Malformed → endedAt s at end ≡ Malformed

@@ -1,62 +1,25 @@
--- A line that was opened, by what stands behind its key.
+-- A line with one number that was opened, by what stands behind its key.
 -- Assumes nothing.
-use mathlib.Core.Path.{_≡_, refl, sym, ap, _∙_}
-use mathlib.Core.Bool.{Bool, true, false, not, cond}
-use mathlib.Core.List.{List, [], _∷_}
-use mathlib.Core.Option.{Option}
-use Prim.Native.Nat.{ℕ, suc, _+_}
-use native.Mathlib.Omega.{arith}
-use lib.Dec.{eqb}
-use lib.ListN.{length, drop}
-use Rattle.model.specs.Text.{cutLine, behind, number}
-use Rattle.model.specs.Read.{Result, Reading, refused, next, form, valueIn}
+use mathlib.Core.Path.{_≡_, _∙_}
+use mathlib.Core.Bool.{true, false}
+use mathlib.Core.List.{List}
+use Prim.Native.Nat.{ℕ}
+use Rattle.model.specs.Text.{number}
+use Rattle.model.specs.Read.{refused, form}
+use Rattle.text.specs.Entries.{endedAt}
 use Rattle.text.specs.Refusals.{placeOf}
 use Rattle.text.specs.declared.Cursor.{Cursor}
-use Rattle.scan.specs.Keys.{OneLine, afterKey, key-law}
-use Rattle.lines.specs.Keyed.{oneLine, lineBy, numberLineBy, capacityLineBy}
-use Rattle.lines.specs.Entries.{endedAt, listLine, finish}
-use Rattle.lines.specs.Opens.{key-there, key-other}
+use Rattle.lines.specs.Keyed.{oneLine, numberLineBy}
 use Rattle.lines.specs.Reads.{openedOf}
-use Rattle.lines.specs.Spread.{spread}
-use Rattle.lines.specs.Told.{mapped}
+use Rattle.lines.specs.Values.{reads-there, reads-other}
 use Rattle.lines.specs.declared.Opened.{Opened}
-use Rattle.lines.proofs.Places.{numeralTold, number-value, capacitiesIn, capacities-value}
-
-one-line : (key : List ℕ) → oneLine key ≡ true → OneLine key
-one-line [] h = tt
-one-line (k ∷ ks) h = go (eqb k 10) refl h (one-line ks)
-  where
-    go : (q : Bool) → eqb k 10 ≡ q → cond (not q) (oneLine ks) false ≡ true → (oneLine ks ≡ true → OneLine ks) → (eqb k 10 ≡ false) × OneLine ks
-    go true e h r = absurd (let y : _≡_ {A = ℕ} 0 1 = cc in omega arith)
-    go false e h r = (e, r h)
+use Rattle.lines.proofs.Places.{numeralTold, number-value}
 
 module _ (s : List ℕ) (c : Cursor) (key : List ℕ) (one : oneLine key ≡ true) (o : Opened) (e : o ≡ openedOf s c key) where
-  -- whatever is done with the value of the line
-  module _ {A : Type 0} (f : List ℕ → Reading A) where
-    reads : next (lineBy key (placeOf s c)) f ≡ next (afterKey (suc (c .line)) (behind key (drop (c .at) s))) f
-    reads = ap (λ (r : Result (List ℕ)). next r f) (key-law (suc (c .line)) key (drop (c .at) s) (one-line key one))
-
-    reads-there : o .there ≡ true → next (lineBy key (placeOf s c)) f ≡ next (valueIn 2 (o .place .line) (cutLine (drop (o .place .at) s)) []) f
-    reads-there t = reads ∙ key-there s c key o e (λ n u. next (afterKey n u) f) t
-
-    reads-other : o .there ≡ false → next (lineBy key (placeOf s c)) f ≡ refused 2 (o .place .line)
-    reads-other t = reads ∙ key-other s c key o e (λ n u. next (afterKey n u) f) t
-
-  -- one number
   pub number-key : o .there ≡ true → numberLineBy key (placeOf s c) ≡ numeralTold (o .place .line) s (endedAt s (o .place .at) 10)
   unfolding numberLineBy
-  number-key t = reads-there (λ v. form 2 (number v)) t ∙ number-value (o .place .line) s (o .place .at)
+  number-key t = reads-there s c key one o e (λ v. form 2 (number v)) t ∙ number-value (o .place .line) s (o .place .at)
 
   pub number-none : o .there ≡ false → numberLineBy key (placeOf s c) ≡ refused 2 (o .place .line)
   unfolding numberLineBy
-  number-none t = reads-other (λ v. form 2 (number v)) t
-
-  -- capacities
-  module _ (k size : ℕ) (w : List ℕ) (to : ℕ) where
-    pub capacities-key : o .there ≡ true → mapped (spread k w to) (capacityLineBy key size (placeOf s c)) ≡ finish k (o .place .line) true w to (listLine size s (o .place .at))
-    unfolding capacityLineBy
-    capacities-key t = ap (mapped (spread k w to)) (reads-there (capacitiesIn size) t) ∙ capacities-value k (o .place .line) size w to s (o .place .at)
-
-    pub capacities-none : o .there ≡ false → mapped (spread k w to) (capacityLineBy key size (placeOf s c)) ≡ refused 2 (o .place .line)
-    unfolding capacityLineBy
-    capacities-none t = ap (mapped (spread k w to)) (reads-other (capacitiesIn size) t)
+  number-none t = reads-other s c key one o e (λ v. form 2 (number v)) t

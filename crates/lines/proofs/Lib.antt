@@ -1,7 +1,4 @@
 mod Ends
-mod Runs
 mod Places
 mod Keys
 pub mod Ranges
-mod Steps
-mod Going

@@ -6,11 +6,9 @@ use mathlib.Core.List.{List, [], _∷_, _++_}
 use Prim.Native.Nat.{ℕ, suc}
 use Prim.Native.String.{String}
 use lib.Dec.{leb, eqb}
-use lib.ListN.{length}
-use Rattle.model.specs.Limits.{mostCapacity}
 use Rattle.model.specs.Lists.{all}
-use Rattle.model.specs.Text.{bytes, cutLine, number, numbers}
-use Rattle.model.specs.Read.{Place, Reading, next, _>>=_, _>>_, give, form, need, valueIn, line, numberLine, ranged, capacityLine}
+use Rattle.model.specs.Text.{bytes, cutLine, number}
+use Rattle.model.specs.Read.{Place, Reading, next, _>>=_, _>>_, give, form, need, valueIn, line, numberLine, ranged}
 
 -- the key holds no byte 10
 abbrev pub oneLine : List ℕ → Bool
@@ -34,14 +32,6 @@ rangedBy key low high = do
   need 3 (leb low n && leb n high)
   give n
 
-unfoldable pub capacityLineBy : List ℕ → ℕ → Reading (List ℕ)
-capacityLineBy key size = do
-  v ← lineBy key
-  cs ← form 2 (numbers v)
-  need 2 (eqb (length cs) size)
-  need 3 (all (λ c. leb c mostCapacity) cs)
-  give cs
-
 -- these are the definitions' lines
 pub number-line-is : (key : String) (p : Place) → numberLine key p ≡ numberLineBy (keyBytes key) p
 unfolding line numberLineBy
@@ -50,7 +40,3 @@ number-line-is key p = refl
 pub ranged-is : (key : String) (low high : ℕ) (p : Place) → ranged key low high p ≡ rangedBy (keyBytes key) low high p
 unfolding line ranged numberLineBy rangedBy
 ranged-is key low high p = refl
-
-pub capacity-line-is : (key : String) (size : ℕ) (p : Place) → capacityLine key size p ≡ capacityLineBy (keyBytes key) size p
-unfolding line capacityLine capacityLineBy
-capacity-line-is key size p = refl

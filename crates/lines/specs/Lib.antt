@@ -1,7 +1,6 @@
 pub mod Keyed
-pub mod Entries
-pub mod Spread
 pub mod Told
-pub mod Ran
 pub mod Reads
 pub mod Opens
+pub mod Values
+pub mod Digits

@@ -1,15 +1,12 @@
--- What the answers of this crate's functions say, in the definitions' words.
+-- What an answer says, in the definitions' words: a number that was read, a list that was read and stored.
 -- Assumes nothing.
-use mathlib.Core.Bool.{Bool, cond}
 use mathlib.Core.Path.{_≡_}
 use mathlib.Core.List.{List}
 use Prim.Native.Nat.{ℕ, _≤_}
-use Rattle.model.specs.Read.{Place, Result, refused, found}
+use Rattle.model.specs.Read.{Result, refused, found}
 use Rattle.text.specs.Refusals.{placeOf, numberOf, lineOf}
 use Rattle.text.specs.declared.Cursor.{Cursor}
-use Rattle.text.specs.declared.Fault.the-variants.{Range}
 use Rattle.text.specs.declared.Refusal.{Refusal}
-use Rattle.text.specs.declared.Refusal.the-variants.{Line}
 use Rattle.lines.specs.declared.Field.{Field}
 use Rattle.lines.specs.declared.Field.the-variants.{Value, Refused}
 use Rattle.lines.specs.declared.Listed.{Listed}
@@ -30,15 +27,6 @@ module _ {A : Type 0} where
 abbrev pub fieldTold : List ℕ → Field → Result ℕ
 fieldTold s (Value v c) = found v (placeOf s c)
 fieldTold s (Refused r) = refusedBy r
-
--- a list that was read, by the working numbers that hold it
-abbrev pub listTold : List ℕ → List ℕ → Listed → Result (List ℕ)
-listTold s w (Next c) = found w (placeOf s c)
-listTold s w (Unlisted r) = refusedBy r
-
--- the answer for a list whose form is right, read up to `at`: whether all its capacities are in their range
-abbrev pub answerOf : ℕ → ℕ → Bool → Listed
-answerOf at line inside = cond inside (Next (record { at = at; line = line })) (Unlisted (Line Range line))
 
 -- the cursor stands in a text of this size, after this line
 pub record After (size line : ℕ) (c : Cursor) : Type 0 where

@@ -1,25 +1,17 @@
-// The reader, by which every line of the text is opened; lines with one number, and lines of capacities.
+// The reader, by which every line of the text is opened; lines with one number.
 use text::Cursor;
 use text::Fault;
 use text::Numeral;
 use text::Refusal;
 ghost use mathlib.Core.Path.{_≡_};
-ghost use mathlib.Core.Bool.{true, _&&_};
-ghost use Prim.Native.Nat.{_+_, _-_, _<_, _≤_, _^_};
-ghost use lib.Dec.{leb};
+ghost use mathlib.Core.Bool.{true};
+ghost use Prim.Native.Nat.{_+_, _<_, _≤_, _^_};
 ghost use lib.ListN.{length};
-ghost use Rattle.model.specs.Limits.{mostCapacity};
-ghost use Rattle.text.specs.Entries.{Short};
+ghost use Rattle.text.specs.Entries.{endedAt};
 ghost use Rattle.text.specs.Refusals.{placeOf};
-ghost use Rattle.lines.specs.Keyed.{oneLine, numberLineBy, rangedBy, capacityLineBy};
-ghost use Rattle.lines.specs.Spread.{kept, spread, Room};
-ghost use Rattle.lines.specs.Told.{fieldTold, fieldIn, listTold, listIn, answerOf, mapped};
+ghost use Rattle.lines.specs.Keyed.{oneLine, numberLineBy, rangedBy};
+ghost use Rattle.lines.specs.Told.{fieldTold, fieldIn};
 ghost use Rattle.lines.specs.Reads.{keyed, behindOf, openedOf, inRange};
-ghost use Rattle.lines.specs.Entries.{endedAt, listAt, listLine, finish};
-ghost use Rattle.lines.specs.Ran.{Stands, Ran};
-
-// "capacities, comma between, lowest y first, then lowest x, each 0 to 255"
-const MOST_CAPACITY: usize = 255;
 
 // A number and the place of the next line.
 pub enum Field {
@@ -110,7 +102,7 @@ pub fn open_line<'a>(s: &'a [u8], c: Cursor, key: &'a [u8]) -> Opened
 // ---- lines with one number
 
 // The number at `at`, the byte `end` behind it, and the place after that.
-fn ended(s: &[u8], at: usize, end: u8) -> Numeral
+pub fn ended(s: &[u8], at: usize, end: u8) -> Numeral
     requires { ⌜ 0 < end ⌝ }
     ensures { λ r. ⌜ r ≡ endedAt (now (s .entry)) at end ⌝ }
 {
@@ -171,170 +163,4 @@ pub fn ranged<'a>(s: &'a [u8], c: Cursor, key: &'a [u8], low: usize, high: usize
     ensures { λ r. ⌜ fieldIn (length (now (s .entry))) (c .line + 1) r ⌝ }
 {
     in_range(number_line(s, c, key), low, high)
-}
-
-// ---- capacities
-
-// One capacity is stored, where it is in its range; whether it and all before it are.
-fn put(w: &mut [u32], to: usize, v: usize, inside: bool) -> bool
-    requires { ⌜ to < length (now w) ⌝ }
-    ensures { λ r. ⌜ r ≡ (inside && leb v mostCapacity) ⌝ }
-    ensures { λ _. ⌜ now (w .exit) ≡ kept (now (w .entry)) to v ⌝ }
-{
-    if MOST_CAPACITY < v {
-        return false;
-    }
-    w[to] = v as u32;
-    inside
-}
-
-// The places from which three bytes are left are those before this one. It is the same for a whole text, so that a loop over places tests each
-// by one comparison.
-fn short_until(s: &[u8]) -> usize
-    ensures { λ r. ⌜ r ≡ length (now (s .entry)) - 2 ⌝ }
-{
-    if s.len() < 2 { 0 } else { s.len() - 2 }
-}
-
-// The number at `at`, a comma behind it, and the place after that, where it has one or two digits and three bytes are left: the common case,
-// without a loop. Malformed says nothing.
-fn short_comma(s: &[u8], at: usize) -> Numeral
-    ensures { λ r. ⌜ Short (now (s .entry)) at 44 r ⌝ }
-{
-    if short_until(s) <= at {
-        return Numeral::Malformed;
-    }
-    text::short(s, at, 44)
-}
-
-// How far the capacities of a line are read: the place of the next one and where it is stored, how many come before the last, and whether all so far
-// are in their range.
-struct Run {
-    at: usize,
-    to: usize,
-    left: usize,
-    inside: bool,
-}
-
-// The capacities from here on that have one or two digits, up to another or to the last.
-fn short_run(s: &[u8], w: &mut [u32], k: usize, from: Run) -> Run
-    requires { ⌜ Stands (now s) k (now w) from ⌝ }
-    ensures { λ r. ⌜ Ran (now (s .entry)) k (now (w .entry)) from (now (w .exit)) r ⌝ }
-{
-    let mut at = from.at;
-    let mut to = from.to;
-    let mut left = from.left;
-    let mut inside = from.inside;
-    while 0 < left {
-        let Numeral::Value(v, next) = short_comma(s, at) else {
-            return Run {
-                at,
-                to,
-                left,
-                inside,
-            };
-        };
-        inside = put(w, to, v, inside);
-        at = next;
-        to += k;
-        left -= 1;
-    }
-    Run {
-        at,
-        to,
-        left,
-        inside,
-    }
-}
-
-// Where the capacities of a line are stored: the first at `first`, and each other `k` places after the one before; how many they are.
-pub struct Column {
-    pub first: usize,
-    pub k: usize,
-    pub count: usize,
-}
-
-// The answer for a list whose form is right, read up to `at`: whether all its capacities are in their range.
-fn answer(at: usize, line: usize, inside: bool) -> Listed
-    ensures { λ r. ⌜ r ≡ answerOf at line inside ⌝ }
-{
-    if inside {
-        return Listed::Next(Cursor { at, line });
-    }
-    Listed::Refused(Refusal::Line(Fault::Range, line))
-}
-
-// The capacities of a column, which stand from c on. Behind the last is byte 10, and behind each other a comma. Those of one or two digits are read in
-// runs.
-fn entries(s: &[u8], c: Cursor, w: &mut [u32], to: Column) -> Listed
-    requires { ⌜ c .at ≤ length (now s) ⌝ }
-    requires { ⌜ Room (to .k) (to .first) (to .count) (length (now w)) ⌝ }
-    ensures { λ r. ⌜ listTold (now (s .entry)) (now (w .exit)) r ≡ finish (to .k) (c .line) true (now (w .entry)) (to .first) (listAt (to .count) (now (s .entry)) (c .at)) ⌝ }
-    ensures { λ r. ⌜ listIn (length (now (s .entry))) (c .line) r ⌝ }
-    ensures { λ _. ⌜ length (now (w .exit)) ≡ length (now (w .entry)) ⌝ }
-{
-    if to.count == 0 {
-        return answer(c.at, c.line, true);
-    }
-    let start = Run {
-        at: c.at,
-        to: to.first,
-        left: to.count - 1,
-        inside: true,
-    };
-    let mut r = short_run(s, w, to.k, start);
-    while 0 < r.left {
-        let Numeral::Value(v, next) = ended(s, r.at, 44) else {
-            return Listed::Refused(Refusal::Line(Fault::Form, c.line));
-        };
-        let more = Run {
-            at: next,
-            to: r.to + to.k,
-            left: r.left - 1,
-            inside: put(w, r.to, v, r.inside),
-        };
-        r = short_run(s, w, to.k, more);
-    }
-    let Numeral::Value(v, next) = ended(s, r.at, 10) else {
-        return Listed::Refused(Refusal::Line(Fault::Form, c.line));
-    };
-    let all = put(w, r.to, v, r.inside);
-    answer(next, c.line, all)
-}
-
-// The same up to the line's end, where the column may be empty: then the value is empty.
-fn list(s: &[u8], c: Cursor, w: &mut [u32], to: Column) -> Listed
-    requires { ⌜ c .at ≤ length (now s) ⌝ }
-    requires { ⌜ Room (to .k) (to .first) (to .count) (length (now w)) ⌝ }
-    ensures { λ r. ⌜ listTold (now (s .entry)) (now (w .exit)) r ≡ finish (to .k) (c .line) true (now (w .entry)) (to .first) (listLine (to .count) (now (s .entry)) (c .at)) ⌝ }
-    ensures { λ r. ⌜ listIn (length (now (s .entry))) (c .line) r ⌝ }
-    ensures { λ _. ⌜ length (now (w .exit)) ≡ length (now (w .entry)) ⌝ }
-{
-    if 0 < to.count {
-        return entries(s, c, w, to);
-    }
-    let at = c.at;
-    let line = c.line;
-    if s.len() <= at {
-        return Listed::Refused(Refusal::Line(Fault::Form, line));
-    }
-    if s[at] == 10 {
-        return Listed::Next(Cursor { at: at + 1, line });
-    }
-    Listed::Refused(Refusal::Line(Fault::Form, line))
-}
-
-// A line of capacities.
-pub fn capacity_line<'a>(s: &'a [u8], c: Cursor, key: &'a [u8], w: &mut [u32], to: Column) -> Listed
-    requires { ⌜ (c .at ≤ length (now s)) × (c .line < 1048576) × (oneLine (now key) ≡ true) ⌝ }
-    requires { ⌜ Room (to .k) (to .first) (to .count) (length (now w)) ⌝ }
-    ensures { λ r. ⌜ listTold (now (s .entry)) (now (w .exit)) r ≡ mapped (spread (to .k) (now (w .entry)) (to .first)) (capacityLineBy (now (key .entry)) (to .count) (placeOf (now (s .entry)) c)) ⌝ }
-    ensures { λ r. ⌜ listIn (length (now (s .entry))) (c .line + 1) r ⌝ }
-    ensures { λ _. ⌜ length (now (w .exit)) ≡ length (now (w .entry)) ⌝ }
-{
-    let o = open_line(s, c, key);
-    if !o.there {
-        return Listed::Refused(Refusal::Line(Fault::Form, o.place.line));
-    }
-    list(s, o.place, w, to)
 }

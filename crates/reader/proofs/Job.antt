@@ -9,7 +9,7 @@ use native.Mathlib.Omega.{arith}
 use borrow.Author.Tests.{leb-true}
 use lib.Dec.{leb}
 use lib.ListN.{length, getD}
-use Rattle.head.specs.Capacities.{column, columns, capacitiesOf, capacity-in}
+use Rattle.capacities.specs.Capacities.{column, columns, capacitiesOf, capacity-in}
 use Rattle.head.specs.Reads.{HeadJob, headIn, restIn}
 use Rattle.head.specs.Told.{headJob, headTold, headHolds, Holds, read-by}
 use Rattle.head.specs.declared.Head.{Head}

@@ -7,7 +7,7 @@ use mathlib.Core.Path.{_≡_, refl}
 use Prim.Native.Nat.{ℕ}
 use lib.Dec.{leb}
 use lib.ListN.{length}
-use Rattle.head.specs.Capacities.{capacitiesOf}
+use Rattle.capacities.specs.Capacities.{capacitiesOf}
 use Rattle.head.specs.Reads.{restIn}
 use Rattle.head.specs.Told.{headJob}
 use Rattle.head.specs.declared.Head.{Head}

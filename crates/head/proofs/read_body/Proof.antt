@@ -4,8 +4,9 @@ use mathlib.Core.Path.{refl, sym, ap, _∙_}
 use Prim.Native.Nat.{_+_, _*_}
 use lib.ListN.{length}
 use Rattle.lines.specs.Told.{fieldTold, list-after}
+use Rattle.capacities.specs.Told.{capacitiesTold}
 use Rattle.head.specs.Reads.{bodyIn}
-use Rattle.head.specs.Told.{weightsTold, capacitiesTold}
+use Rattle.head.specs.Told.{weightsTold}
 use Rattle.head.proofs.Cases.{weights-hold, nets-hold, beyond-holds, capacities-room}
 use native.Mathlib.Omega.{arith}
 use borrow.Author.Needs.{needs}
@@ -30,7 +31,7 @@ returns-2 c =
     let a = c13 .args in
     let g = c8 .v .given in
     let i = c .before .r2 .given in
-    let q = c5 .capacities in (
+    let q = c5 .all-layers in (
       sym (rw (sym (c10 .read-weights .ensures .0) ∙ ap (weightsTold (a .s .now)) (g .1), sym (q .ensures .0) ∙ ap (capacitiesTold (a .s .now) (a .g) (q .last .1 .1 .0)) (i .1))),
       (tt, q .ensures .1 .1 .1),
     )
@@ -47,7 +48,7 @@ returns-3 c =
     let g = c12 .v .given in
     let i = c5 .e .given in
     let j = c .before .r3 .given in
-    let q = c9 .capacities in (
+    let q = c9 .all-layers in (
       sym (rw (sym (c14 .read-weights .ensures .0) ∙ ap (weightsTold (a .s .now)) (g .1), sym (q .ensures .0) ∙ ap (capacitiesTold (a .s .now) (a .g) (q .last .1 .1 .0)) (i .1), sym (c .before .before .before .nets-line .ensures .0) ∙ ap (fieldTold (a .s .now)) (j .1))),
       (tt, q .ensures .1 .1 .1),
     )
@@ -66,7 +67,7 @@ returns-4 c =
     let g = c12 .v .given in
     let i = c5 .e .given in
     let j = c .before .nets .given in
-    let q = c9 .capacities in
+    let q = c9 .all-layers in
     let x = weights-hold (length (a .s .now)) (a .c .line + 3) (g .0 .1 .0) (c14 .read-weights .result) (g .0 .0) (g .1) (c14 .read-weights .ensures .1) in
     let y = list-after (q .result) (length (a .s .now)) (g .0 .1 .0 .line + 2 * a .g .k) (i .0 .0) (i .1) (q .ensures .1 .1 .0) in
     let z = nets-hold (length (a .s .now)) (i .0 .0 .line + 1) (j .0 .1 .0) (c3 .nets-line .result) (a .order) (j .0 .0) (j .1) (c3 .nets-line .ensures .1) in (
@@ -109,7 +110,7 @@ read-body-spec =
     let r = c13 .pre in
     let g = c8 .v .given in
     let i = c .before .e .given in
-    let q = c5 .capacities in
+    let q = c5 .all-layers in
     let x = weights-hold (length (a .s .now)) (a .c .line + 3) (g .0 .1 .0) (c10 .read-weights .result) (g .0 .0) (g .1) (c10 .read-weights .ensures .1) in
     let y = list-after (q .result) (length (a .s .now)) (g .0 .1 .0 .line + 2 * a .g .k) (i .0 .0) (i .1) (q .ensures .1 .1 .0) in
     (y .place, omega (arith, y .lines, x .1 .lines, r .0 .1, r .1 .0 .k-most)))

@@ -4,9 +4,10 @@ use mathlib.Core.Path.{sym, ap, _∙_}
 use native.Mathlib.Omega.{arith}
 use borrow.Author.Needs.{needs}
 use borrow.Author.Tests.{not-true, not-false}
+use Rattle.lines.specs.Digits.{ended-within}
 use Rattle.lines.specs.declared.Opened.{Opened}
 use Rattle.lines.proofs.Keys.{number-none, number-key}
-use Rattle.lines.proofs.Places.{numeralTold, ended-within}
+use Rattle.lines.proofs.Places.{numeralTold}
 use Rattle.lines.proofs.number_line.Statement.{statement}
 use Rattle.lines.proofs.number_line.Tie as tie
 

@@ -1,0 +1,7 @@
+mod Runs
+mod Places
+mod Keys
+mod Steps
+mod Going
+mod Spreads
+mod Layers

@@ -1,7 +1,0 @@
--- `answer` meets its contract.
--- Assumes nothing.
-use Rattle.lines.proofs.answer.Statement.{statement}
-use Rattle.lines.proofs.answer.Tie as tie
-
-pub answer-spec : {M : Type 1} → statement M
-answer-spec = tie.close (tie.spec (λ c. rw (c .if1 .taken)) (λ c. rw (c .if1 .left)))
