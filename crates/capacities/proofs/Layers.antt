@@ -6,7 +6,7 @@ use Prim.Native.Nat.{ℕ, suc, _+_, _-_, _*_, _≤_, _<_}
 use native.Mathlib.Numerals.{add-one}
 use native.Mathlib.Nat.{add-mul, mul-comm, mul-le-mul-right}
 use native.Mathlib.Omega.{arith}
-use lib.ListN.{length, drop}
+use lib.ListN.{length}
 use Rattle.model.specs.Grid.{eastCount, northCount}
 use Rattle.model.specs.Read.{Place, Result, refused, found, next, capacityLine, capacityLines}
 use Rattle.theory.specs.links.Reading.{Gives, CapsOk, EachCaps, capacity-gives, capacities-give}

@@ -10,7 +10,7 @@ use Rattle.model.specs.Grid.{eastCount, northCount}
 use Rattle.model.specs.Limits.{mostCapacity}
 use Rattle.model.specs.Lists.{all}
 use Rattle.model.specs.Text.{numbers}
-use Rattle.model.specs.Read.{Place, Reading, next, _>>=_, _>>_, give, form, need, line, capacityLine}
+use Rattle.model.specs.Read.{Place, Reading, _>>=_, _>>_, give, form, need, line, capacityLine}
 use Rattle.lines.specs.Keyed.{keyBytes, lineBy}
 
 unfoldable pub capacityLineBy : List ℕ → ℕ → Reading (List ℕ)

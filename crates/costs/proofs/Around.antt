@@ -13,13 +13,13 @@ use Rattle.theory.specs.congestion.Sums.{In, in-head, in-tail, lt-or-ge}
 use Rattle.theory.specs.engine.Branches.{below}
 use Rattle.theory.specs.engine.Loops.{comb, Turn}
 use Rattle.theory.specs.engine.Span.{span, Covers, Around, span-le, span-hit, covers-cons, covers-append, covers-left, covers-right}
-use Rattle.theory.specs.engine.Interval.{leastIn, least-in-top}
+use Rattle.theory.specs.engine.Interval.{least-in-top}
 use Rattle.sets.specs.Mask.{has, withLayer, maskOf, spanOf, IsSet, layersIn, set-with, set-layers-in, mask-price}
 use Rattle.costs.specs.Rows.{illegalCost, rowAt, combinationCost, layersTried, LeastCost, LayerMask}
 use Rattle.costs.specs.Kept.{tried-le}
 use Rattle.costs.specs.Combinations.{comb-length, covers-none, covers-comb, choice-turn}
 use Rattle.costs.specs.Intervals.{leastOver, within, branchSum, interval, leastEnd, around, PinEnds}
-use Rattle.costs.proofs.Runs.{run-more, run-same, run-low, run-hit}
+use Rattle.costs.proofs.Runs.{run-low, run-hit}
 
 -- ---- one branch on the layers s to e
 

@@ -7,11 +7,11 @@ use Prim.Native.Nat.{ℕ, suc, _+_, _-_, _*_, _≤_, _<_}
 use native.Mathlib.Omega.{arith}
 use lib.ListN.{getD}
 use Rattle.model.specs.Lists.{upFrom}
-use Rattle.theory.specs.congestion.Sums.{In, in-tail, lt-or-ge}
+use Rattle.theory.specs.congestion.Sums.{in-tail, lt-or-ge}
 use Rattle.theory.specs.engine.Loops.{comb, Turn}
 use Rattle.theory.specs.engine.Span.{span, Covers, span-le, span-hit, covers-cons, covers-append, covers-left, covers-right}
 use Rattle.theory.specs.engine.Interval.{leastIn, least-in-top}
-use Rattle.sets.specs.Mask.{has, withLayer, maskOf, spanOf, IsSet, layersIn, set-with, set-layers-in, mask-price}
+use Rattle.sets.specs.Mask.{withLayer, maskOf, spanOf, IsSet, layersIn, set-with, set-layers-in, mask-price}
 use Rattle.costs.specs.Rows.{illegalCost, combinationCost, layersTried, LeastCost, TileCosts, rootBranches, LayerMask, Shape}
 use Rattle.costs.specs.Kept.{tried-le}
 use Rattle.costs.specs.Combinations.{covers-comb}

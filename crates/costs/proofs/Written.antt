@@ -7,13 +7,13 @@ use mathlib.Core.Logic.{_⊎_, inl, inr, _≢_}
 use Prim.Native.Nat.{ℕ, suc, _+_, _-_, _*_, _/_, _%_, _^_, _≤_, _<_}
 use native.Mathlib.Omega.{arith}
 use lib.Dec.{T, eqb, eqb→eq}
-use lib.ListN.{getD, length, take, drop, set, length-set}
+use lib.ListN.{getD, length, take, set, length-set}
 use lib.Seq.{take-set-le, drop-set-lt, getD-set-same, getD-set-other, take-take}
 use Rattle.theory.specs.congestion.Sums.{lt-or-ge}
 use Rattle.theory.specs.engine.Table.{Agree}
 use Rattle.sets.specs.Mask.{has, withLayer}
 use Rattle.costs.specs.Rows.{illegalCost, rowAt, LeastCost, RowEntry, TileCosts, RowPut, RowWritten, firstIn, branchesIn, pinsIn, legalIn, LayerMask, Shape, RowsFrom}
-use Rattle.costs.specs.Kept.{agree-drop, entry-kept, drop-more, rows-read, shape-kept}
+use Rattle.costs.specs.Kept.{agree-drop, entry-kept, drop-more, rows-read}
 
 -- ---- one row, layer by layer
 

@@ -6,7 +6,7 @@ use Prim.Native.Nat.{ℕ, zero, suc, _≤_}
 use native.Mathlib.Omega.{arith}
 use lib.ListN.{length}
 use lib.Seq.{length-take-le}
-use Rattle.theory.specs.congestion.Sums.{In, in-head, in-tail}
+use Rattle.theory.specs.congestion.Sums.{in-head, in-tail}
 use Rattle.theory.specs.engine.Loops.{comb, Turn}
 use Rattle.theory.specs.engine.Span.{Covers, covers-cons}
 use Rattle.costs.specs.Rows.{layersTried}

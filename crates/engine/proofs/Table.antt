@@ -22,7 +22,7 @@ use Rattle.theory.specs.engine.Places.{RowsAt, TableAt, kidsOf, IsWalk}
 use Rattle.theory.specs.engine.Bounds.{root-bound}
 use Rattle.theory.specs.links.Nets.{NetOk}
 use Rattle.theory.specs.links.Engine.{kidsAt, firstAt, pinsAt, viasAt, walk-by-place, kids-few, kids-are, rows-small, loops-row, loops-choice, price-costs, pins-cover, stopAt}
-use Rattle.sets.specs.Mask.{has, withLayer, maskOf, spanOf, mask-price}
+use Rattle.sets.specs.Mask.{withLayer, maskOf, spanOf, mask-price}
 use Rattle.costs.specs.Rows.{illegalCost, rowAt, combinationCost, layersTried, LeastCost, RowEntry, firstIn, branchesIn, Shape, RowsFrom}
 use Rattle.engine.specs.Net.{Holds}
 use Rattle.costs.specs.Kept.{tried-all, tried-one, tried-le, least-cong}

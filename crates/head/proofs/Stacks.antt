@@ -2,15 +2,13 @@
 -- Assumes nothing.
 use mathlib.Core.Path.{_≡_, refl, sym, ap, _∙_}
 use mathlib.Core.Bool.{Bool, true, false, cond}
-use Prim.Native.Nat.{ℕ, _≤_, _<_}
+use Prim.Native.Nat.{ℕ, _≤_}
 use native.Mathlib.Omega.{arith}
 use borrow.Author.Tests.{ltb-true, ltb-false}
 use lib.Dec.{ltb}
-use Rattle.model.specs.Read.{Place, Result, refused, found, next, ranged}
+use Rattle.model.specs.Read.{Place, Result, refused, found, next}
 use Rattle.layout.specs.Shapes.{stackOf, shapeOf}
-use Rattle.layout.specs.declared.Made.{Made}
 use Rattle.layout.specs.declared.Made.the-variants.{Stack as stacked, Outside}
-use Rattle.layout.specs.declared.Shape.{Shape}
 use Rattle.layout.specs.declared.Stack.{Stack}
 use Rattle.lines.specs.Keyed.{keyBytes, numberLineBy, rangedBy, ranged-is}
 use Rattle.lines.proofs.Ranges.{range-refused, range-low, range-high, range-in}

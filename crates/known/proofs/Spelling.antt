@@ -3,23 +3,20 @@
 use mathlib.Core.Bool.{Bool, true, false, _&&_, not, cond}
 use mathlib.Core.List.{List, [], _∷_}
 use mathlib.Core.Logic.{_⊎_, inl, inr}
-use mathlib.Core.Option.{Option, none, some}
+use mathlib.Core.Option.{none, some}
 use mathlib.Core.Path.{_≡_, refl, sym, ap, _∙_}
 use Prim.Native.Nat.{ℕ, zero, suc, _+_, _-_, _*_, _≤_, _<_}
 use native.Mathlib.Omega.{arith}
-use borrow.Author.Tests.{leb-true, eqb-true, eqb-false}
+use borrow.Author.Tests.{leb-true, eqb-false}
 use lib.Dec.{leb, eqb}
 use lib.ListN.{length, drop, getD}
 use lib.Seq.{getD-drop}
 use Rattle.model.specs.Lists.{all}
 use Rattle.model.specs.Text.{isDigit, isNumber, valueFrom, number}
 use Rattle.scan.specs.Inside.{false-true}
-use Rattle.scan.specs.Places.{number-is, head-drop, getD-in}
-use Rattle.text.specs.Entries.{onNumber, commaAt}
+use Rattle.scan.specs.Places.{number-is, head-drop}
 use Rattle.text.specs.Number.{digitRun, run, numberAt}
-use Rattle.text.specs.declared.Numeral.{Numeral}
-use Rattle.text.specs.declared.Numeral.the-variants.{Value, Malformed}
-use Rattle.known.specs.Known.{ShortNumber}
+use Rattle.text.specs.declared.Numeral.the-variants.{Value}
 
 both : (p q : Bool) → (p && q) ≡ true → (p ≡ true) × (q ≡ true)
 both true q e = (refl, e)

@@ -1,13 +1,12 @@
 -- Parts of a lent list: k numbers from a on. Where a part is lent on and comes back, the rest of the list is as it was.
 -- Assumes nothing.
-use mathlib.Core.List.{List, [], _∷_, _++_, append-assoc}
-use mathlib.Core.Logic.{_⊎_, inl, inr, ⊎-elim}
+use mathlib.Core.List.{List, _++_}
+use mathlib.Core.Logic.{_⊎_, ⊎-elim}
 use mathlib.Core.Path.{_≡_, refl, sym, ap, _∙_}
 use Prim.Native.Nat.{ℕ, _+_, _-_, _≤_, _<_}
-use native.Mathlib.Decide.{decLt}
 use native.Mathlib.Omega.{arith}
 use lib.ListN.{length, take, drop, getD, set, length-append, length-take, length-drop, length-set, List·getD-append}
-use lib.Seq.{getD-take, getD-drop, getD-append-add, getD-set-other, getD-set-same, ext-getD, drop-drop, length-take-le, take-at, drop-at}
+use lib.Seq.{getD-take, getD-drop, getD-append-add, getD-set-other, ext-getD, length-take-le, take-at, drop-at}
 
 -- k numbers from a on
 abbrev pub part : ℕ → ℕ → List ℕ → List ℕ

@@ -1,12 +1,12 @@
 -- The stack and the grid as the code has them.
 -- Assumes nothing.
-use mathlib.Core.Bool.{Bool, true, false, cond}
+use mathlib.Core.Bool.{cond}
 use mathlib.Core.Path.{_≡_}
 use Prim.Native.Nat.{ℕ, zero, suc, _+_, _-_, _*_, _/_, _≤_, _<_}
 use native.Mathlib.Nat.{mul-le-mul-right, suc-mul, mul-comm}
 use native.Mathlib.Omega.{arith}
 use lib.Dec.{ltb}
-use Rattle.model.specs.Grid.{tiles, eastCount, northCount, gridEdges}
+use Rattle.model.specs.Grid.{tiles, eastCount, gridEdges}
 use Rattle.model.specs.Limits.{leastSide, mostSide, leastLayers, mostLayers}
 use Rattle.model.specs.Read.{Sizes}
 use Rattle.layout.specs.declared.Made.{Made}

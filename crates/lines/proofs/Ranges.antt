@@ -6,14 +6,14 @@ use mathlib.Core.List.{List}
 use Prim.Native.Nat.{ℕ, _≤_, _<_}
 use lib.Dec.{leb}
 use borrow.Author.Tests.{le-leb, lt-leb}
-use Rattle.model.specs.Read.{Place, Result, refused, found, next, _>>=_, _>>_, need, give}
+use Rattle.model.specs.Read.{Place, refused, found, next, _>>=_, _>>_, need, give}
 use Rattle.text.specs.Refusals.{placeOf}
 use Rattle.text.specs.declared.Cursor.{Cursor}
 use Rattle.text.specs.declared.Fault.the-variants.{Range}
 use Rattle.text.specs.declared.Refusal.the-variants.{Line}
 use Rattle.lines.specs.Keyed.{numberLineBy, rangedBy}
 use Rattle.lines.specs.Reads.{inRange}
-use Rattle.lines.specs.Told.{refusedBy, fieldTold, fieldIn}
+use Rattle.lines.specs.Told.{fieldTold, fieldIn}
 use Rattle.lines.specs.declared.Field.{Field}
 use Rattle.lines.specs.declared.Field.the-variants.{Value, Refused}
 

@@ -8,7 +8,7 @@ use Prim.Native.String.{String}
 use lib.Dec.{leb, eqb}
 use Rattle.model.specs.Lists.{all}
 use Rattle.model.specs.Text.{bytes, cutLine, number}
-use Rattle.model.specs.Read.{Place, Reading, next, _>>=_, _>>_, give, form, need, valueIn, line, numberLine, ranged}
+use Rattle.model.specs.Read.{Place, Reading, _>>=_, _>>_, give, form, need, valueIn, line, numberLine, ranged}
 
 -- the key holds no byte 10
 abbrev pub oneLine : List ℕ → Bool

@@ -3,8 +3,8 @@
 use mathlib.Core.Bool.{true, false}
 use mathlib.Core.List.{List, [], _∷_, _++_, map, append-assoc}
 use mathlib.Core.Logic.{⊎-elim}
-use mathlib.Core.Option.{none, some}
-use mathlib.Core.Path.{_≡_, refl, sym, ap, _∙_}
+use mathlib.Core.Option.{some}
+use mathlib.Core.Path.{_≡_, sym, ap, _∙_}
 use Prim.Native.Nat.{ℕ, _+_, _*_, _≤_, _<_}
 use native.Mathlib.Omega.{arith}
 use lib.ListN.{length, drop, getD, length-append, drop-of-length-le}
@@ -13,13 +13,11 @@ use Rattle.layout.specs.declared.Shape.{Shape}
 use Rattle.model.specs.Job.{Net}
 use Rattle.model.specs.Lists.{all, has, occurs}
 use Rattle.model.specs.Read.{Triple, edgeInside, edgeAt}
-use Rattle.model.specs.Text.{cutLine}
 use Rattle.scan.specs.Edges.{edge-is, edge-way}
 use Rattle.scan.specs.First.{some-none, front, one-line, all-first}
-use Rattle.scan.specs.Lines.{Lined}
 use Rattle.scan.specs.Pins.{triple}
 use Rattle.scan.specs.Places.{drop-byte, head-drop}
-use Rattle.scan.specs.Ways.{edgesOf, edgesCut, edges-empty, edges-some}
+use Rattle.scan.specs.Ways.{edgesOf, edges-empty, edges-some}
 use Rattle.text.specs.Entries.{edgeEntryAt}
 use Rattle.text.specs.declared.Entry.the-variants.{More, Last, Bad}
 use Rattle.theory.specs.congestion.Sums.{lt-or-ge, same-refl}

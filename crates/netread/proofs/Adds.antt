@@ -10,7 +10,7 @@ use native.Mathlib.Omega.{arith}
 use borrow.Author.Tests.{eqb-true, eqb-false}
 use lib.Bits.{bitOr, or-step, or-zero-r}
 use lib.Dec.{eqb}
-use lib.ListN.{length, getD, set}
+use lib.ListN.{getD, set}
 use lib.Seq.{set-getD}
 use Rattle.marks.specs.Marks.{bitsAt, marked, marksAfter}
 use Rattle.marks.specs.Words.{bitsIn, bitOf, Fits, bits-new, bits-old, bit-some, stampUnit}

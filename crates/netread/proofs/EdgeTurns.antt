@@ -2,7 +2,7 @@
 -- Assumes nothing.
 use mathlib.Core.Bool.{true, false}
 use mathlib.Core.List.{List, [], _∷_, _++_}
-use mathlib.Core.Path.{_≡_, refl, sym, ap, _∙_}
+use mathlib.Core.Path.{_≡_}
 use Prim.Native.Nat.{ℕ, _≤_, _<_}
 use native.Mathlib.Omega.{arith}
 use lib.ListN.{length, getD}
@@ -16,7 +16,7 @@ use Rattle.marks.specs.Words.{Fits}
 use Rattle.model.specs.Job.{Net}
 use Rattle.model.specs.Read.{Triple, edgeInside}
 use Rattle.net.specs.AtHand.{tilesOf}
-use Rattle.net.specs.Left.{EdgesLeft, EdgeNext, EdgesThere, next-new, next-room, left-start, last-whole, more-left, more-place}
+use Rattle.net.specs.Left.{EdgeNext, EdgesThere, next-new, next-room, left-start, last-whole, more-left, more-place}
 use Rattle.net.specs.Table.{EdgesAt}
 use Rattle.scan.specs.Pins.{triple}
 use Rattle.text.specs.Entries.{edgeEntryAt}

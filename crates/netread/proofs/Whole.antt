@@ -1,8 +1,8 @@
 -- The two lines of a net, one after the other.
 -- Assumes nothing.
 use mathlib.Core.List.{List, [], map}
-use mathlib.Core.Path.{_≡_, refl, sym, ap, ap₂, _∙_}
-use Prim.Native.Nat.{ℕ, _+_, _-_, _*_, _≤_, _<_}
+use mathlib.Core.Path.{_≡_, sym, ap, ap₂, _∙_}
+use Prim.Native.Nat.{ℕ, _-_, _*_, _≤_, _<_}
 use native.Mathlib.Omega.{arith}
 use lib.ListN.{length, take, drop}
 use borrow.Rule.Slice.PartMut.{putMid}
@@ -15,7 +15,7 @@ use Rattle.marks.specs.Marks.{Older}
 use Rattle.marks.specs.Words.{Fits}
 use Rattle.model.specs.Job.{Pin, Net, Job}
 use Rattle.model.specs.Lists.{In}
-use Rattle.model.specs.Read.{Triple, pinAt}
+use Rattle.model.specs.Read.{pinAt}
 use Rattle.model.specs.Walk.{lowestFrom}
 use Rattle.net.specs.AtHand.{tilesOf, AtHand}
 use Rattle.net.specs.Left.{EdgesThere, edges-there}

@@ -3,7 +3,7 @@
 use mathlib.Core.Bool.{Bool, true, false, _&&_, _||_, cond}
 use mathlib.Core.List.{List, [], _∷_, _++_, map}
 use mathlib.Core.Path.{_≡_, refl, sym, ap, _∙_}
-use Prim.Native.Nat.{ℕ, _+_, _-_, _*_, _≤_, _<_, min}
+use Prim.Native.Nat.{ℕ, _+_, _-_, _≤_, _<_, min}
 use native.Mathlib.Decide.{ℕ-discrete}
 use native.Mathlib.Omega.{arith}
 use borrow.Author.Tests.{eq-eqb, ne-eqb}
@@ -26,7 +26,7 @@ use Rattle.theory.specs.congestion.Sums.{in-head, in-tail}
 use Rattle.theory.specs.links.Nets.{NetOk, EachPin}
 use Rattle.theory.specs.links.Reach.{loOf, hiOf}
 use Rattle.theory.specs.walk.NetVias.{pinTiles}
-use Rattle.theory.specs.walk.Ways.{way?, wayEdge}
+use Rattle.theory.specs.walk.Ways.{way?}
 use Rattle.netread.specs.Edges.{netWith}
 use Rattle.netread.specs.Pins.{afterPins, noTile}
 use Rattle.netread.specs.Ways.{lo-hi}

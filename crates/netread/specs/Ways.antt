@@ -3,7 +3,7 @@
 -- Assumes nothing.
 use mathlib.Core.Bool.{Bool, true, false, _&&_, cond}
 use mathlib.Core.Logic.{_⊎_, inl, inr, ⊎-elim}
-use mathlib.Core.Path.{_≡_, refl, sym, ap, _∙_, subst}
+use mathlib.Core.Path.{_≡_, sym, ap, _∙_}
 use Prim.Native.Nat.{ℕ, zero, suc, _+_, _-_, _*_, _/_, _%_, _≤_, _<_}
 use native.Mathlib.Nat.{div-add-mod, div-eq-of-lt-le, mod-lt}
 use native.Mathlib.Omega.{arith}
@@ -17,7 +17,7 @@ use Rattle.theory.specs.links.Edges.{lo-is, hi-is}
 use Rattle.theory.specs.links.Reach.{loOf, hiOf}
 use Rattle.theory.specs.links.Tests.{is-true, test-eq, and-both, both-and}
 use Rattle.theory.specs.walk.Stops.{At, far}
-use Rattle.theory.specs.walk.Ways.{lo, hi, way?, wayTile, wayEdge, way-leads}
+use Rattle.theory.specs.walk.Ways.{way?, wayTile, wayEdge, way-leads}
 use Rattle.ways.specs.Entry.{startOf, edgeOf, Placed, placed}
 
 -- a test that two numbers are equal

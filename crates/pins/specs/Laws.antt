@@ -9,7 +9,7 @@ use native.Mathlib.Omega.{arith}
 use lib.Dec.{eqb}
 use lib.ListN.{length}
 use borrow.Author.Tests.{eq-eqb, ne-eqb}
-use Rattle.marks.specs.Marks.{marked, mark, Older, mark-has, mark-fits, mark-long, none-marked}
+use Rattle.marks.specs.Marks.{marked, Older, mark-has, mark-fits, mark-long, none-marked}
 use Rattle.marks.specs.Words.{Fits}
 use Rattle.model.specs.Job.{Pin}
 use Rattle.model.specs.Lists.{any, twice}

@@ -1,17 +1,17 @@
 -- A `pins` line as the code reads it: judged and marked entry by entry.
 -- Assumes nothing.
-use mathlib.Core.Bool.{Bool, true, false, _&&_, _||_, not, cond}
+use mathlib.Core.Bool.{Bool, true, false, _&&_, _||_, cond}
 use mathlib.Core.List.{List, [], _∷_, map}
-use mathlib.Core.Option.{Option, none, some}
+use mathlib.Core.Option.{none, some}
 use mathlib.Core.Path.{_≡_}
-use Prim.Native.Nat.{ℕ, _+_, _-_, _*_}
+use Prim.Native.Nat.{ℕ, _+_, _-_}
 use lib.Dec.{eqb}
 use lib.ListN.{length}
 use Rattle.layout.specs.declared.Shape.{Shape}
 use Rattle.marks.specs.Marks.{bitsAt, marked, mark, marksAfter}
 use Rattle.model.specs.Job.{Pin}
 use Rattle.model.specs.Lists.{all, bit}
-use Rattle.model.specs.Read.{Place, Result, refused, found, Triple, pinInside, pinAt}
+use Rattle.model.specs.Read.{Result, refused, found, Triple, pinInside, pinAt}
 use Rattle.scan.specs.Lines.{Lined}
 use Rattle.lines.specs.Told.{After, refusedBy}
 use Rattle.text.specs.Refusals.{placeOf}

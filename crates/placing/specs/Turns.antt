@@ -3,7 +3,7 @@
 use mathlib.Core.List.{List, []}
 use mathlib.Core.Path.{_≡_}
 use Prim.Native.Nat.{ℕ, suc, _-_, _≤_}
-use lib.ListN.{length, drop, getD, set, replicate}
+use lib.ListN.{drop, getD, set, replicate}
 use Rattle.layout.specs.Table.{pinsColumn, edgesColumn, firstColumn, countColumn}
 use Rattle.layout.specs.declared.Shape.{Shape}
 use Rattle.marks.specs.Marks.{Older}

@@ -6,9 +6,8 @@ use Prim.Native.Nat.{ℕ, zero, suc, _+_, _-_, _≤_, _<_}
 use native.Mathlib.Omega.{arith}
 use lib.ListN.{length, take, drop, getD, length-map, List·getD-map}
 use lib.Seq.{sets}
-use Rattle.layout.specs.Table.{turnColumn, firstColumn, countColumn, viasColumn, tableSize}
+use Rattle.layout.specs.Table.{turnColumn}
 use Rattle.model.specs.Calls.{overwrite}
-use Rattle.model.specs.Demand3.{choiceVias, planIn}
 use Rattle.model.specs.Job.{Net, Job, netCount, netOf, netEdges, entryCount}
 use Rattle.model.specs.Limits.{mostNets}
 use Rattle.model.specs.Lists.{upFrom}
@@ -21,7 +20,7 @@ use Rattle.model.specs.Vias.{vias}
 use Rattle.theory.specs.links.Meets.{order-long}
 use Rattle.theory.specs.links.Reading.{Accepted}
 use Rattle.theory.specs.links.Room.{print-room}
-use Rattle.theory.specs.links.Stretches.{offset, offset-room, cut-length, cut-at}
+use Rattle.theory.specs.links.Stretches.{offset-room, cut-length, cut-at}
 use Rattle.net.specs.Held.{Held}
 use Rattle.print.specs.Texts.{viasOf, layersOf, netsText, turnsOf, totalsText, planText, Rows}
 use Rattle.put.specs.Wrote.{sets-overwrite}

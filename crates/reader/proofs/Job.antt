@@ -22,7 +22,7 @@ use Rattle.layout.specs.declared.Shape.{Shape}
 use Rattle.lines.specs.Told.{refusedBy}
 use Rattle.model.specs.Job.{Net, Job, netCount}
 use Rattle.model.specs.Limits.{mostText}
-use Rattle.model.specs.Read.{Place, found, next, Lent, workingNeed, need, read}
+use Rattle.model.specs.Read.{Place, found, next, Lent, workingNeed, read}
 use Rattle.net.specs.SoFar.{Capacities}
 use Rattle.net.specs.Table.{Row, PinCounts}
 use Rattle.text.specs.Refusals.{placeOf}

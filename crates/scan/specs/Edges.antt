@@ -1,19 +1,18 @@
 -- What an edge entry at a place says of the definitions' reading of the line from there on. Assumes nothing.
 use mathlib.Core.Path.{_≡_, refl, sym, ap, _∙_}
-use mathlib.Core.Bool.{Bool, true, false, _&&_, _||_, not, cond}
-use mathlib.Core.List.{List, [], _∷_, map}
+use mathlib.Core.Bool.{Bool, true, false, cond}
+use mathlib.Core.List.{List, [], _∷_}
 use mathlib.Core.Option.{Option, none, some}
-use Prim.Native.Nat.{ℕ, zero, suc, _+_, _*_, _-_, _≤_, _<_}
+use Prim.Native.Nat.{ℕ, _+_, _-_, _≤_, _<_}
 use native.Mathlib.Omega.{arith}
-use borrow.Author.Tests.{eqb-true, eqb-false, le-ltb, lt-ltb, ne-eqb, eq-eqb}
-use lib.Dec.{eqb, ltb}
+use borrow.Author.Tests.{eqb-true, eqb-false}
+use lib.Dec.{eqb}
 use lib.ListN.{length, drop, getD}
-use Rattle.model.specs.Lists.{all}
 use Rattle.model.specs.Text.{number}
 use Rattle.model.specs.Read.{Triple, tripleOf, threeParts, way}
 use Rattle.text.specs.declared.Numeral.{Numeral}
 use Rattle.text.specs.declared.Numeral.the-variants.{Value, Malformed}
-use Rattle.scan.specs.Lines.{Judge, Lined, lineOf, consTo, oneTo}
+use Rattle.scan.specs.Lines.{Judge, lineOf, consTo, oneTo}
 use Rattle.scan.specs.Places.{Begins, run, getD-in, drop-byte, head-drop}
 use Rattle.scan.specs.Ways.{Ends, way-bad, way-semicolon, way-newline, way-no-break, edgesOf}
 use Rattle.text.specs.declared.Entry.{Entry}

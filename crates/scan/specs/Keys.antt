@@ -2,18 +2,18 @@
 -- Assumes nothing.
 use mathlib.Core.Path.{_≡_, refl, sym, ap, _∙_}
 use mathlib.Core.Bool.{Bool, true, false, _&&_, not, cond}
-use mathlib.Core.List.{List, [], _∷_, _++_, map}
+use mathlib.Core.List.{List, [], _∷_, map}
 use mathlib.Core.Option.{Option, none, some}
-use Prim.Native.Nat.{ℕ, zero, suc}
+use Prim.Native.Nat.{ℕ, suc}
 use lib.Dec.{eqb}
 use lib.ListN.{length, drop}
 use Rattle.text.specs.Entries.{startsWith}
 use borrow.Author.Tests.{eqb-true}
 use Rattle.model.specs.Lists.{all, twice}
-use Rattle.model.specs.Text.{bytes, Cut, cutStep, cutLine, behind, split, number}
+use Rattle.model.specs.Text.{bytes, Cut, cutStep, cutLine, behind, number}
 use Rattle.model.specs.Job.{Pin}
-use Rattle.model.specs.Read.{Place, Result, Reading, refused, found, next, _>>=_, _>>_, give, form, need, valueIn, line, Sizes, Triple, threeParts, pinEntries, pinInside, pinAt, samePin, pinsLine}
-use Rattle.scan.specs.Lines.{Lined, lineOf, lineBy, firstBy, withRest, first-all}
+use Rattle.model.specs.Read.{Result, Reading, refused, found, next, _>>=_, _>>_, give, form, need, valueIn, line, Sizes, Triple, threeParts, pinEntries, pinInside, pinAt, samePin, pinsLine}
+use Rattle.scan.specs.Lines.{Lined, lineOf, lineBy, withRest, first-all}
 
 -- the key holds no byte 10
 abbrev pub OneLine : List ℕ → Type 0

@@ -3,17 +3,16 @@
 -- Assumes nothing.
 use mathlib.Core.Path.{_≡_, refl, sym, ap, _∙_}
 use mathlib.Core.Bool.{Bool, true, false, _&&_, not, cond}
-use mathlib.Core.List.{List, [], _∷_, _++_, map, append-nil}
+use mathlib.Core.List.{List, [], _∷_, _++_, map}
 use mathlib.Core.Option.{Option, none, some}
-use Prim.Native.Nat.{ℕ, zero, suc, _+_}
-use lib.Dec.{leb, ltb, eqb}
+use Prim.Native.Nat.{ℕ, _+_}
+use lib.Dec.{leb, eqb}
 use lib.ListN.{length, drop}
-use borrow.Author.Tests.{eq-eqb, ne-eqb}
-use native.Mathlib.Decide.{ℕ-discrete}
+use borrow.Author.Tests.{ne-eqb}
 use native.Mathlib.Omega.{arith}
 use Rattle.model.specs.Lists.{all, consIf, every}
-use Rattle.model.specs.Text.{Cut, cutStep, cutLine, onFirst, split, entries, isDigit, isNumber, valueFrom, number}
-use Rattle.model.specs.Read.{Triple, threeParts, tripleOf, pinEntries}
+use Rattle.model.specs.Text.{Cut, cutStep, cutLine, onFirst, split, isDigit, valueFrom, number}
+use Rattle.model.specs.Read.{Triple}
 use Rattle.text.specs.Number.{digitRun}
 
 abbrev pub Judge : Type 0

@@ -1,26 +1,21 @@
 -- A number at a place of the text, and the byte after it, against the definitions' reading of the line.
 -- Assumes nothing.
-use mathlib.Core.Path.{_≡_, refl, sym, ap, _∙_}
-use mathlib.Core.Bool.{Bool, true, false, _&&_, _||_, not, cond}
-use mathlib.Core.List.{List, [], _∷_, _++_, map, append-nil}
+use mathlib.Core.Path.{_≡_, refl, sym, _∙_}
+use mathlib.Core.Bool.{false}
+use mathlib.Core.List.{List, [], _∷_, _++_, append-nil}
 use mathlib.Core.Option.{Option, none, some}
-use Prim.Native.Nat.{ℕ, zero, suc, _+_, _*_, _-_, _≤_, _<_}
-use native.Mathlib.Nat.{mul-comm, add-zero}
+use Prim.Native.Nat.{ℕ, _+_, _-_, _<_}
+use native.Mathlib.Nat.{add-zero}
 use native.Mathlib.Numerals.{add-one}
-use lib.Dec.{leb, ltb, eqb}
-use lib.ListN.{length, drop, getD, List·getD-eq-default, drop-of-length-le}
+use lib.ListN.{length, drop, getD, List·getD-eq-default}
 use lib.Seq.{drop-drop, drop-cons, getD-drop}
-use borrow.Author.Tests.{eq-eqb, ne-eqb, le-leb}
 use native.Mathlib.Decide.{ℕ-discrete, decLt}
 use native.Mathlib.Omega.{arith}
-use Rattle.model.specs.Lists.{all}
-use Rattle.model.specs.Text.{onFirst, split, isDigit, isNumber, number}
-use Rattle.model.specs.Read.{Triple}
+use Rattle.model.specs.Text.{onFirst, isDigit, number}
 pub use Rattle.text.specs.Number.{run}
-use Rattle.text.specs.Number.{digitRun, numbered, numberAt}
-use Rattle.text.specs.declared.Numeral.{Numeral}
+use Rattle.text.specs.Number.{numbered, numberAt}
 use Rattle.text.specs.declared.Numeral.the-variants.{Value, Malformed}
-use Rattle.scan.specs.Lines.{Judge, Lined, lineOf, consTo, oneTo, line-ext, line-other, line-comma, line-semicolon, line-newline, line-none, prepend, undigits, line-run, NoDigit, undigits-no, undigits-drop, no-number}
+use Rattle.scan.specs.Lines.{Judge, lineOf, consTo, oneTo, line-ext, line-other, line-comma, line-semicolon, line-newline, line-none, prepend, undigits, line-run, NoDigit, undigits-no, undigits-drop, no-number}
 
 -- a judge that takes only entries that begin with a number
 pub record Begins (f : Judge) : Type 0 where

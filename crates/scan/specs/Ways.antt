@@ -1,20 +1,17 @@
 -- The third part of an edge entry, one byte e or n, and the byte after it; a line that may be empty.
 -- Assumes nothing.
 use mathlib.Core.Path.{_≡_, refl, sym, ap, _∙_}
-use mathlib.Core.Bool.{Bool, true, false, _&&_, not, cond}
-use mathlib.Core.List.{List, [], _∷_, _++_, map}
+use mathlib.Core.Bool.{Bool, true, false, cond}
+use mathlib.Core.List.{List, [], _∷_}
 use mathlib.Core.Option.{Option, none, some}
-use Prim.Native.Nat.{ℕ, zero, suc, _+_, _<_, _≤_}
-use lib.Dec.{eqb}
-use lib.ListN.{length, drop, getD}
-use borrow.Author.Tests.{eq-eqb, ne-eqb}
+use Prim.Native.Nat.{ℕ, suc}
+use lib.ListN.{getD}
+use borrow.Author.Tests.{ne-eqb}
 use native.Mathlib.Decide.{ℕ-discrete}
-use native.Mathlib.Omega.{arith}
-use Rattle.model.specs.Lists.{all, every}
-use Rattle.model.specs.Text.{bytes, Cut, cutStep, cutLine, behind, onFirst, split, entries, number}
-use Rattle.model.specs.Read.{Place, Result, Reading, refused, found, next, _>>=_, _>>_, give, form, need, valueIn, line, Triple, tripleOf, threeParts, way, edgeEntries, edgeInside}
-use Rattle.scan.specs.Lines.{Judge, Lined, lineOf, lineBy, firstBy, withRest, first-all, consTo, oneTo, line-ext, line-other, line-comma, line-semicolon, line-newline, line-none}
-use Rattle.scan.specs.Places.{drop-byte, head-drop}
+use Rattle.model.specs.Lists.{all}
+use Rattle.model.specs.Text.{bytes, Cut, cutStep, cutLine, behind, onFirst}
+use Rattle.model.specs.Read.{Result, Reading, refused, found, next, _>>=_, _>>_, give, form, need, valueIn, line, Triple, threeParts, way, edgeEntries, edgeInside}
+use Rattle.scan.specs.Lines.{Judge, Lined, lineOf, lineBy, withRest, first-all, consTo, oneTo, line-other, line-comma, line-semicolon, line-newline, line-none}
 use Rattle.scan.specs.Keys.{afterKey, key-law}
 
 -- a judge of the last part of an edge entry

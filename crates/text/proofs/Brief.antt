@@ -16,7 +16,7 @@ use Rattle.text.specs.declared.Entry.the-variants.{More, Last, Bad}
 use Rattle.text.specs.declared.Pair.{Pair}
 use Rattle.text.specs.declared.Pair.the-variants.{Values}
 use Rattle.text.specs.declared.Numeral.{Numeral}
-use Rattle.text.specs.declared.Numeral.the-variants.{Value, Malformed}
+use Rattle.text.specs.declared.Numeral.the-variants.{Value}
 use Rattle.text.proofs.Digits.{digits-more, digits-stop}
 
 -- so many bytes are left

@@ -1,7 +1,7 @@
 -- The digitRun from a place on, one step at a time.
 use mathlib.Core.Path.{_≡_, refl, sym, ap, _∙_}
 use mathlib.Core.List.{List, [], _∷_}
-use mathlib.Core.Option.{Option, none, some}
+use mathlib.Core.Option.{none, some}
 use mathlib.Core.Bool.{Bool, true, false, cond, not, _&&_, _||_}
 use Prim.Native.Nat.{ℕ, zero, suc, _+_, _-_, _*_, _^_, _≤_, _<_}
 use native.Mathlib.Numerals.{add-one}
@@ -12,9 +12,8 @@ use lib.Seq.{slice, slice-cons, drop-cons, take-nil, getD-take, getD-drop}
 use borrow.Author.Tests.{le-leb, lt-leb, eq-eqb, ne-eqb, eqb-true}
 use Rattle.text.specs.declared.Numeral.the-variants.{Value, Malformed}
 use lib.Dec.{lit<, eqb, leb}
-use Rattle.model.specs.Text.{isDigit, isNumber, valueFrom, number}
+use Rattle.model.specs.Text.{isDigit, isNumber, valueFrom}
 use Rattle.model.specs.Lists.{all}
-use Rattle.text.specs.declared.Numeral.{Numeral}
 use Rattle.text.specs.Number.{digitRun, run, numbered, numberAt}
 
 module _ (s : List ℕ) (i : ℕ) where

@@ -1,10 +1,10 @@
 -- The loop over a net's edges: a turn puts one of them on its layer.
 -- Assumes nothing.
-use mathlib.Core.List.{List, [], _∷_}
+use mathlib.Core.List.{List, _∷_}
 use mathlib.Core.Path.{_≡_, refl, sym, ap, _∙_, subst}
 use Prim.Native.Nat.{ℕ, suc, _+_, _-_, _≤_, _<_}
 use native.Mathlib.Omega.{arith}
-use lib.ListN.{length, take, drop, getD}
+use lib.ListN.{length, getD}
 use lib.Seq.{drop-cons}
 use Rattle.layout.specs.Areas.{flatAt, aboveAt}
 use Rattle.layout.specs.Parts.{part}

@@ -1,8 +1,8 @@
 -- One more net on a layer of an edge.
 -- Assumes nothing.
 use mathlib.Core.Bool.{Bool, true, false}
-use mathlib.Core.List.{List, [], _∷_}
-use mathlib.Core.Logic.{_⊎_, inl, inr, ⊎-elim, _≢_}
+use mathlib.Core.List.{List}
+use mathlib.Core.Logic.{_⊎_, inl, inr, _≢_}
 use mathlib.Core.Path.{_≡_, refl, sym, ap, ap₂, _∙_, subst, fun-ext}
 use Prim.Native.Nat.{ℕ, _+_, _-_, _*_, _≤_, _<_}
 use native.Mathlib.Omega.{arith}
@@ -15,11 +15,11 @@ use Rattle.layout.specs.declared.Shape.{Shape}
 use Rattle.model.specs.Job.{Job, layersOf, capacity}
 use Rattle.model.specs.Legal.{sumOver, put}
 use Rattle.model.specs.Limits.{mostNets}
-use Rattle.model.specs.Lists.{bit, same, occurs, In}
+use Rattle.model.specs.Lists.{bit, same}
 use Rattle.model.specs.Overflow.{over}
-use Rattle.net.specs.SoFar.{Capacities, SoFarWith}
+use Rattle.net.specs.SoFar.{SoFarWith}
 use Rattle.theory.specs.congestion.Base.{upFrom-once, in-upFrom}
-use Rattle.theory.specs.congestion.Edge.{Legal, put-same, sum-over-put}
+use Rattle.theory.specs.congestion.Edge.{Legal, sum-over-put}
 use Rattle.theory.specs.congestion.Loads.{mark-one, mark-none}
 use Rattle.theory.specs.congestion.Sums.{same-cases, same-refl, sum-eq}
 use Rattle.net.specs.Places.{edge-room, apart}

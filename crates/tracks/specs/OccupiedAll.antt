@@ -2,7 +2,7 @@
 -- Assumes nothing.
 use mathlib.Core.List.{List, [], _∷_}
 use mathlib.Core.Logic.{inl, _≢_}
-use mathlib.Core.Path.{_≡_, refl, sym, ap, _∙_, subst, fun-ext}
+use mathlib.Core.Path.{_≡_, sym, subst, fun-ext}
 use Prim.Native.Nat.{ℕ, _+_, _-_, _*_, _≤_, _<_}
 use native.Mathlib.Omega.{arith}
 use lib.ListN.{length, getD}
@@ -12,7 +12,6 @@ use Rattle.layout.specs.declared.Shape.{Shape}
 use Rattle.model.specs.Job.{Job, layersOf, capacity}
 use Rattle.model.specs.Limits.{mostNets}
 use Rattle.model.specs.Lists.{same, occurs, In}
-use Rattle.model.specs.Overflow.{uses}
 use Rattle.net.specs.SoFar.{SoFarWith}
 use Rattle.theory.specs.congestion.Base.{in-upFrom}
 use Rattle.theory.specs.congestion.Edge.{Legal}

@@ -2,13 +2,12 @@
 -- Assumes nothing.
 use mathlib.Core.List.{List, _∷_}
 use mathlib.Core.Path.{_≡_, sym, ap, _∙_}
-use Prim.Native.Nat.{ℕ, _+_, _-_, _≤_, _<_}
+use Prim.Native.Nat.{ℕ, _-_, _≤_, _<_}
 use native.Mathlib.Omega.{arith}
 use lib.ListN.{length, set}
 use Rattle.layout.specs.Areas.{flatAt}
 use Rattle.layout.specs.declared.Shape.{Shape}
 use Rattle.model.specs.Job.{Net, Job, edgeCount, netOf}
-use Rattle.model.specs.Limits.{mostNets}
 use Rattle.model.specs.Lists.{occurs, In}
 use Rattle.model.specs.Overflow.{uses, flatOverflow, limit}
 use Rattle.model.specs.Plan.{placed, layerOf, best, bestInWalk}

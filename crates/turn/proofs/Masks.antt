@@ -10,7 +10,6 @@ use lib.Seq.{getD-set-same, getD-set-other}
 use Rattle.layout.specs.Areas.{aboveAt}
 use Rattle.layout.specs.Parts.{Outside, set-outside, outside-wider, outside-then, outside-same}
 use Rattle.layout.specs.declared.Shape.{Shape}
-use Rattle.tracks.specs.Legal.{legalMask}
 use Rattle.net.specs.Places.{SmallCapacities}
 use Rattle.turn.specs.Kept.{outside-low, small-low, mask-low}
 use Rattle.turn.specs.Steps.{masksAt, KnownEdges, legalAt, LegalPut}

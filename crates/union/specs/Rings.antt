@@ -4,7 +4,7 @@ use mathlib.Core.Path.{_≡_, sym, ap, _∙_}
 use mathlib.Core.List.{List, [], _∷_, _++_}
 use mathlib.Core.Bool.{Bool, true, false, not, cond}
 use Prim.Native.Nat.{ℕ}
-use Rattle.model.specs.Tree.{closes, ring}
+use Rattle.model.specs.Tree.{ring}
 use Rattle.theory.specs.walk.Joined.{onto}
 use Rattle.theory.specs.walk.Union.{Holds}
 use Rattle.theory.specs.links.Reach.{loOf, hiOf}

@@ -1,7 +1,6 @@
 -- `field` is safe: the number so far is below 10,000,000.
 -- Assumes nothing.
 use Prim.Native.Nat.{_-_, _≤_, _<_}
-use native.Mathlib.Omega.{arith}
 use borrow.Author.Needs.{needs}
 use Rattle.cases.proofs.field.Statement.{statement}
 use Rattle.cases.proofs.field.Tie as tie

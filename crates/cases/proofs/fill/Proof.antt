@@ -1,9 +1,8 @@
 -- `fill` is safe: the slice keeps its length.
 -- Assumes nothing.
 use mathlib.Core.Path.{_≡_, refl}
-use Prim.Native.Nat.{_-_, _≤_}
-use native.Mathlib.Omega.{arith}
-use lib.ListN.{length, length-set}
+use Prim.Native.Nat.{_-_}
+use lib.ListN.{length}
 use borrow.Author.Needs.{needs}
 use Rattle.cases.proofs.fill.Statement.{statement}
 use Rattle.cases.proofs.fill.Tie as tie

@@ -1,7 +1,6 @@
 -- `load` is safe, and the text's end stands in the slice.
 -- Assumes nothing.
 use mathlib.Core.Path.{sym}
-use native.Mathlib.Omega.{arith}
 use lib.Seq.{length-take-le}
 use borrow.Author.Needs.{needs}
 use Rattle.cases.proofs.load.Statement.{statement}

@@ -1,6 +1,5 @@
 -- `pin_ends` meets its contract.
 -- Assumes nothing.
-use mathlib.Core.Path.{_∙_}
 use native.Mathlib.Omega.{arith}
 use borrow.Author.Needs.{needs}
 use Rattle.costs.proofs.Steps.{ends-none, ends-some}

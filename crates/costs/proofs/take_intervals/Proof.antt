@@ -1,6 +1,6 @@
 -- `take_intervals` meets its contract. The loop's invariant: the layers from b on have taken the least of the ends, and `least` is the least so far.
 -- Assumes nothing.
-use mathlib.Core.Path.{_≡_, _∙_, ap, ap₂}
+use mathlib.Core.Path.{_≡_, _∙_, ap₂}
 use Prim.Native.Nat.{ℕ, _-_, _≤_, min}
 use native.Mathlib.Omega.{arith}
 use borrow.Author.Needs.{needs}

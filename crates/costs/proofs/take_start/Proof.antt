@@ -1,6 +1,5 @@
 -- `take_start` meets its contract.
 -- Assumes nothing.
-use native.Mathlib.Omega.{arith}
 use borrow.Author.Needs.{needs}
 use Rattle.costs.proofs.Steps.{around-more}
 use Rattle.costs.proofs.take_start.Statement.{statement}

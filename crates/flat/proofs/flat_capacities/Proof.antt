@@ -1,9 +1,8 @@
 -- `flat_capacities` meets its contract. The loop's invariant: c(e) stands in its place for the first e edges, and the rest is as it was.
 -- Assumes nothing.
-use mathlib.Core.Path.{_≡_, _∙_}
+use mathlib.Core.Path.{_∙_}
 use Prim.Native.Nat.{_-_, _≤_}
 use native.Mathlib.Omega.{arith}
-use lib.ListN.{length}
 use borrow.Author.Needs.{needs}
 use Rattle.layout.specs.Areas.{loadsAt}
 use Rattle.flat.specs.FlatPlan.{capacitySum}

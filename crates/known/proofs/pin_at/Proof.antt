@@ -1,8 +1,7 @@
 -- `pin_at` meets its contract.
 -- Assumes nothing.
-use Prim.Native.Nat.{ℕ, _+_, _<_}
+use Prim.Native.Nat.{ℕ}
 use native.Mathlib.Omega.{arith}
-use lib.ListN.{length, getD}
 use Rattle.text.specs.Entries.{pinEntryAt}
 use Rattle.known.proofs.Parts.{Layer, pin-first, pin-second, pin-third}
 use Rattle.known.proofs.pin_at.Statement.{statement}

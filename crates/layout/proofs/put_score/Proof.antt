@@ -1,5 +1,4 @@
 -- Both halves are written where they belong, one after the other.
-use mathlib.Core.List.{List}
 use mathlib.Core.Path.{ap₂}
 use Prim.Native.Nat.{ℕ, _/_, _%_}
 use native.Mathlib.Omega.{arith}

@@ -3,7 +3,7 @@
 -- Copy: what it owns is had twice. What a place owns are facts, and they are made anew where a callee asks them.
 --     d₀ d₁    the reader at the line, and behind its key
 -- Assumes nothing.
-use mathlib.Core.Path.{_≡_, refl, _∙_, ap}
+use mathlib.Core.Path.{_≡_, refl, ap}
 use mathlib.Core.Bool.{Bool}
 use Prim.Native.Nat.{ℕ, _+_, _<_, _≤_, _^_}
 use native.Mathlib.Omega.{arith}

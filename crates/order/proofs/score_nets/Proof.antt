@@ -3,7 +3,6 @@
 use mathlib.Core.List.{List}
 use mathlib.Core.Path.{sym, subst}
 use Prim.Native.Nat.{ℕ, _+_, _-_}
-use native.Mathlib.Omega.{arith}
 use borrow.Author.Needs.{needs}
 use Rattle.order.proofs.Scoring.{Scoring, scoring-first, net-there, few, scoring-next, scoring-done}
 use Rattle.order.proofs.score_nets.Statement.{statement}

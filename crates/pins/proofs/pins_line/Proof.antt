@@ -1,7 +1,6 @@
 -- `pins_line` meets its contract: the line is opened, and its entries are read from behind the key on.
 -- Assumes nothing.
 use mathlib.Core.Path.{refl, _∙_}
-use native.Mathlib.Omega.{arith}
 use lib.ListN.{length}
 use borrow.Author.Needs.{needs}
 use borrow.Author.Tests.{not-true, not-false}

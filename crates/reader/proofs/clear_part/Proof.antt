@@ -2,13 +2,13 @@
 -- Assumes nothing.
 use mathlib.Core.List.{List}
 use mathlib.Core.Path.{_≡_, refl, sym, ap, _∙_}
-use Prim.Native.Nat.{ℕ, _+_, _-_, _≤_, _<_}
+use Prim.Native.Nat.{ℕ, _+_, _-_, _≤_}
 use native.Mathlib.Omega.{arith}
 use lib.ListN.{length, take, drop, getD, replicate, length-replicate, getD-replicate}
 use borrow.Author.Needs.{needs}
 use borrow.Rule.Slice.PartMut.{putMid}
-use Rattle.layout.specs.Lent.{lent-part, put-part, put-outside}
-use Rattle.layout.specs.Parts.{part, part-at, part-long}
+use Rattle.layout.specs.Lent.{put-part, put-outside}
+use Rattle.layout.specs.Parts.{part-at, part-long}
 use Rattle.nets.specs.Nets.{PartCleared}
 use Rattle.reader.proofs.clear_part.Statement.{statement}
 use Rattle.reader.proofs.clear_part.Tie as tie

@@ -3,7 +3,7 @@
 -- Assumes nothing.
 use native.Mathlib.Nat.{add-zero}
 use Rattle.text.proofs.Prefix.{key-more, key-differs, key-short, key-all}
-use mathlib.Core.Path.{_≡_, refl, sym, ap, _∙_}
+use mathlib.Core.Path.{_≡_, sym, _∙_}
 use Prim.Native.Nat.{_+_, _-_, _≤_}
 use lib.ListN.{length, drop, length-drop}
 use Rattle.text.specs.Entries.{startsWith}

@@ -1,12 +1,11 @@
 -- `value` meets its contract: a loop over the digits.
 -- The invariant: the value so far and the digits that are left spell the whole. As no digit is above 207, v + 23 grows at most tenfold (10 × 23 = 23 + 207), so five digits do not overflow.
 -- Assumes nothing.
-use mathlib.Core.Path.{_≡_, refl, sym, _∙_, ap}
+use mathlib.Core.Path.{_≡_, refl, sym, _∙_}
 use Prim.Native.Nat.{_+_, _-_, _*_, _^_, _≤_}
 use native.Mathlib.Nat.{sub-self}
 use lib.Dec.{lit≤}
-use lib.ListN.{length, drop}
-use lib.Seq.{slice, slice-empty}
+use lib.Seq.{slice}
 use Rattle.model.specs.Text.{valueFrom}
 use Rattle.text.proofs.Digits.{value-step, value-done, grow, small}
 use borrow.Author.Needs.{needs}

@@ -1,10 +1,8 @@
 -- `union::root` meets its contract. The loop's invariant: tile t has the root of tile x, and no root changed. The measure is t.
 -- Assumes nothing.
-use mathlib.Core.Path.{_≡_, sym, ap, _∙_}
-use Prim.Native.Nat.{ℕ, _≤_, _<_}
+use mathlib.Core.Path.{sym, _∙_}
 use native.Mathlib.Omega.{arith}
 use borrow.Author.Needs.{needs}
-use Rattle.union.specs.Links.{parentIn}
 use Rattle.union.proofs.Words.{Searched, searched-start, searched-again, searched-done}
 use Rattle.union.proofs.root.Statement.{statement}
 use Rattle.union.proofs.root.Tie as tie

@@ -3,7 +3,6 @@
 use mathlib.Core.Path.{_≡_}
 use native.Mathlib.Nat.{div-le-self}
 use native.Mathlib.Omega.{arith}
-use borrow.Author.Needs.{needs}
 use Rattle.ways.proofs.way_on.Statement.{statement}
 use Rattle.ways.proofs.way_on.Tie as tie
 
