@@ -6,7 +6,7 @@ use mathlib.Core.Path.{_≡_}
 use Prim.Native.Nat.{ℕ, _+_, _≤_, _<_, _*_}
 use lib.Dec.{eqb}
 use lib.ListN.{length, getD}
-use Rattle.layout.specs.Areas.{demandAt, flatAt, tilesAt, linksAt}
+use Rattle.layout.specs.Areas.{demandAt, flatAt, tilesAt, linksAt, tilesOf}
 use Rattle.layout.specs.Parts.{part}
 use Rattle.layout.specs.Shapes.{mostTiles}
 use Rattle.layout.specs.declared.Shape.{Shape}
@@ -25,10 +25,7 @@ use Rattle.ways.specs.Entry.{startOf, edgeOf}
 use Rattle.edges.specs.declared.Judged.{Judged}
 use Rattle.edges.specs.declared.Judged.the-variants.{Fine, Ring, Twice, Range}
 
--- the marks of the tiles, and their links
-abbrev pub tilesOf : Shape → List ℕ → List ℕ
-tilesOf g w = part (tilesAt g) (g .t) w
-
+-- the links of the tiles
 abbrev pub linksOf : Shape → List ℕ → List ℕ
 linksOf g w = part (linksAt g) (g .t) w
 

@@ -11,7 +11,7 @@ ghost use mathlib.Core.Bool.{true, false};
 ghost use mathlib.Core.List.{List, [], _∷_, _++_};
 ghost use Prim.Native.Nat.{ℕ, _+_, _-_, _<_, _≤_, _*_};
 ghost use lib.ListN.{length, drop, getD, set};
-ghost use Rattle.layout.specs.Areas.{demandAt, tilesAt, linksAt, chosenAt};
+ghost use Rattle.layout.specs.Areas.{demandAt, tilesAt, linksAt, chosenAt, tilesOf};
 ghost use Rattle.layout.specs.Parts.{Outside};
 ghost use Rattle.layout.specs.Shapes.{Shaped};
 ghost use Rattle.marks.specs.Words.{mostStamp};
@@ -23,7 +23,7 @@ ghost use Rattle.model.specs.Text.{cutLine};
 ghost use Rattle.scan.specs.Ways.{edgesOf, edgesCut};
 ghost use Rattle.union.specs.Links.{Links, Merged};
 ghost use Rattle.ways.specs.Ends.{endsOf, endsAfter};
-ghost use Rattle.edges.specs.Reading.{tilesOf, linksOf, Reading, Few, Begun, Shown, goesOn, GoesOn, Ready};
+ghost use Rattle.edges.specs.Reading.{linksOf, Reading, Few, Begun, Shown, goesOn, GoesOn, Ready};
 ghost use Rattle.edges.specs.Line.{verdictOf, EntriesRead, LineRead};
 
 // What the entries of a line have shown so far, the worst of it: "On one line the lower number wins".

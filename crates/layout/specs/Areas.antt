@@ -1,8 +1,10 @@
 -- Where each part of the working numbers starts.
 -- Assumes nothing.
+use mathlib.Core.List.{List}
 use Prim.Native.Nat.{ℕ, _+_, _*_, _≤_, _<_}
 use native.Mathlib.Nat.{mul-le-mul-right}
 use native.Mathlib.Omega.{arith}
+use Rattle.layout.specs.Parts.{part}
 use Rattle.layout.specs.declared.Shape.{Shape}
 
 -- the capacities stand from 0 on, at edge × K + (layer − 1); the nets on each layer likewise from here on
@@ -51,3 +53,9 @@ areasEnd g = engineAt g + 12 * g .m
 -- an edge's K numbers lie within the K × E of all edges
 pub edge-room : (g : Shape) (e : ℕ) → e < g .e → e * g .k + g .k ≤ loadsAt g
 edge-room g e h = omega (arith, mul-le-mul-right (g .k) h)
+
+-- ---- parts of the working numbers
+
+-- the marks of the tiles
+abbrev pub tilesOf : Shape → List ℕ → List ℕ
+tilesOf g w = part (tilesAt g) (g .t) w

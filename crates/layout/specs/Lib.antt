@@ -1,5 +1,5 @@
 pub mod Shapes
+pub mod Parts
 pub mod Areas
 pub mod Table
-pub mod Parts
 pub mod Lent

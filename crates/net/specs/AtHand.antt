@@ -5,8 +5,7 @@ use mathlib.Core.List.{List}
 use mathlib.Core.Path.{_≡_}
 use Prim.Native.Nat.{ℕ, _+_, _-_, _≤_, _<_}
 use lib.ListN.{length, getD}
-use Rattle.layout.specs.Areas.{tilesAt, listAt}
-use Rattle.layout.specs.Parts.{part}
+use Rattle.layout.specs.Areas.{listAt, tilesOf}
 use Rattle.layout.specs.declared.Shape.{Shape}
 use Rattle.marks.specs.Marks.{marked}
 use Rattle.marks.specs.Words.{Fits}
@@ -14,10 +13,6 @@ use Rattle.model.specs.Job.{Net}
 use Rattle.model.specs.Lists.{has}
 use Rattle.model.specs.Vias.{pinLayers}
 use Rattle.theory.specs.walk.Ways.{way?, wayEdge}
-
--- the marks of the tiles
-abbrev pub tilesOf : Shape → List ℕ → List ℕ
-tilesOf g w = part (tilesAt g) (g .t) w
 
 pub record AtHand (g : Shape) (n : ℕ) (net : Net) (w : List ℕ) : Type 0 where
   pub fits : Fits n (tilesOf g w)

@@ -4,13 +4,12 @@ use mathlib.Core.List.{List}
 use mathlib.Core.Path.{_≡_}
 use Prim.Native.Nat.{ℕ, suc, _+_, _≤_, _<_}
 use lib.ListN.{length, getD}
-use Rattle.layout.specs.Areas.{loadsAt, demandAt, areasEnd}
+use Rattle.layout.specs.Areas.{loadsAt, demandAt, areasEnd, tilesOf}
 use Rattle.layout.specs.Shapes.{shapeOf, Shaped}
 use Rattle.layout.specs.declared.Shape.{Shape}
 use Rattle.marks.specs.Marks.{Older}
 use Rattle.model.specs.Job.{Job, netCount}
 use Rattle.model.specs.Overflow.{flatDemand}
-use Rattle.net.specs.AtHand.{tilesOf}
 use Rattle.net.specs.SoFar.{Capacities}
 use Rattle.net.specs.Table.{Table, PinCounts}
 

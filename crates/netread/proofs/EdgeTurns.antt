@@ -9,13 +9,12 @@ use lib.ListN.{length, getD}
 use Rattle.known.specs.Known.{entryOf, ShortEntry, is-last, is-more}
 use Rattle.known.specs.Left.{edge-short, known-next}
 use Rattle.known.specs.declared.Known.{Known}
-use Rattle.layout.specs.Areas.{areasEnd}
+use Rattle.layout.specs.Areas.{areasEnd, tilesOf}
 use Rattle.layout.specs.Shapes.{Shaped}
 use Rattle.layout.specs.declared.Shape.{Shape}
 use Rattle.marks.specs.Words.{Fits}
 use Rattle.model.specs.Job.{Net}
 use Rattle.model.specs.Read.{Triple, edgeInside}
-use Rattle.net.specs.AtHand.{tilesOf}
 use Rattle.net.specs.Left.{EdgeNext, EdgesThere, next-new, next-room, left-start, last-whole, more-left, more-place}
 use Rattle.net.specs.Table.{EdgesAt}
 use Rattle.scan.specs.Pins.{triple}

@@ -8,13 +8,12 @@ use Prim.Native.Nat.{ℕ, _+_, _*_, _≤_, _<_, min}
 use native.Mathlib.Omega.{arith}
 use lib.ListN.{length, set}
 use lib.Seq.{getD-set-same, getD-set-other}
-use Rattle.layout.specs.Areas.{tilesAt, listAt, areasEnd}
+use Rattle.layout.specs.Areas.{tilesAt, listAt, areasEnd, tilesOf}
 use Rattle.layout.specs.Parts.{Outside, part-outside, set-outside}
 use Rattle.layout.specs.Shapes.{Shaped, wayOf}
 use Rattle.layout.specs.declared.Shape.{Shape}
 use Rattle.layout.specs.declared.Way.{Way}
 use Rattle.model.specs.Read.{edgeInside}
-use Rattle.net.specs.AtHand.{tilesOf}
 use Rattle.scan.specs.Pins.{triple}
 use Rattle.theory.specs.links.Reach.{hiOf}
 use Rattle.ways.specs.Entry.{edgeOf, Placed, placed}

@@ -6,7 +6,7 @@ use Prim.Native.Nat.{ℕ, _-_, _*_, _≤_, _<_}
 use native.Mathlib.Omega.{arith}
 use lib.ListN.{length, take, drop}
 use borrow.Rule.Slice.PartMut.{putMid}
-use Rattle.layout.specs.Areas.{tilesAt, linksAt, areasEnd}
+use Rattle.layout.specs.Areas.{tilesAt, linksAt, areasEnd, tilesOf}
 use Rattle.layout.specs.Lent.{lent-part, put-part, put-outside}
 use Rattle.layout.specs.Parts.{Outside, part-long}
 use Rattle.layout.specs.Shapes.{Shaped}
@@ -17,7 +17,7 @@ use Rattle.model.specs.Job.{Pin, Net, Job}
 use Rattle.model.specs.Lists.{In}
 use Rattle.model.specs.Read.{pinAt}
 use Rattle.model.specs.Walk.{lowestFrom}
-use Rattle.net.specs.AtHand.{tilesOf, AtHand}
+use Rattle.net.specs.AtHand.{AtHand}
 use Rattle.net.specs.Left.{EdgesThere, edges-there}
 use Rattle.net.specs.Table.{PinsAt, EdgesAt}
 use Rattle.scan.specs.First.{one-line}

@@ -4,14 +4,14 @@ use mathlib.Core.List.{List, [], map}
 use mathlib.Core.Path.{_≡_, _∙_}
 use Prim.Native.Nat.{ℕ, _+_, _≤_, _<_, min}
 use lib.ListN.{length, getD}
-use Rattle.layout.specs.Areas.{tilesAt, linksAt, listAt, stopsAt}
+use Rattle.layout.specs.Areas.{tilesAt, linksAt, listAt, stopsAt, tilesOf}
 use Rattle.layout.specs.declared.Shape.{Shape}
 use Rattle.marks.specs.Marks.{marksAfter}
 use Rattle.marks.specs.Words.{Fits}
 use Rattle.model.specs.Job.{Pin, Net}
 use Rattle.model.specs.Read.{Triple}
 use Rattle.model.specs.Walk.{lowestFrom}
-use Rattle.net.specs.AtHand.{tilesOf, AtHand}
+use Rattle.net.specs.AtHand.{AtHand}
 use Rattle.net.specs.Left.{EdgesLeft}
 use Rattle.theory.specs.links.Reach.{loOf, hiOf}
 use Rattle.ways.specs.Ends.{after-long}

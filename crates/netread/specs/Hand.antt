@@ -9,7 +9,7 @@ use native.Mathlib.Omega.{arith}
 use lib.Dec.{eqb}
 use lib.ListN.{length, getD, set, length-append, List·getD-append}
 use lib.Seq.{getD-append-seam}
-use Rattle.layout.specs.Areas.{tilesAt, listAt, areasEnd}
+use Rattle.layout.specs.Areas.{tilesAt, listAt, areasEnd, tilesOf}
 use Rattle.layout.specs.Parts.{part-long, Outside, set-outside}
 use Rattle.layout.specs.Shapes.{Shaped}
 use Rattle.layout.specs.declared.Shape.{Shape}
@@ -19,7 +19,7 @@ use Rattle.model.specs.Job.{Pin}
 use Rattle.model.specs.Lists.{has}
 use Rattle.model.specs.Read.{Triple, edgeInside}
 use Rattle.model.specs.Walk.{lowestFrom}
-use Rattle.net.specs.AtHand.{tilesOf, AtHand}
+use Rattle.net.specs.AtHand.{AtHand}
 use Rattle.theory.specs.congestion.Sums.{lt-or-ge}
 use Rattle.theory.specs.links.Reach.{loOf, hiOf}
 use Rattle.theory.specs.walk.Ways.{way?, wayEdge}

@@ -9,7 +9,7 @@ use native.Mathlib.Omega.{arith}
 use borrow.Author.Tests.{eq-eqb, ne-eqb}
 use lib.Dec.{eqb}
 use lib.ListN.{length}
-use Rattle.layout.specs.Areas.{tilesAt, areasEnd}
+use Rattle.layout.specs.Areas.{tilesAt, areasEnd, tilesOf}
 use Rattle.layout.specs.Parts.{part-long}
 use Rattle.layout.specs.Shapes.{Shaped}
 use Rattle.layout.specs.declared.Shape.{Shape}
@@ -19,7 +19,7 @@ use Rattle.model.specs.Lists.{any, has, In}
 use Rattle.model.specs.Read.{samePin}
 use Rattle.model.specs.Vias.{pinLayers}
 use Rattle.model.specs.Walk.{endTiles, netTiles, lowestFrom, lowest}
-use Rattle.net.specs.AtHand.{tilesOf, AtHand}
+use Rattle.net.specs.AtHand.{AtHand}
 use Rattle.pins.specs.Laws.{AllInside, first-twice, pins-has, pins-others, pins-fit}
 use Rattle.pins.specs.Pins.{pinMarked, markPin, markPins, markedTwice}
 use Rattle.theory.specs.congestion.Sums.{in-head, in-tail}

@@ -7,11 +7,11 @@ use native.Mathlib.Omega.{arith}
 use lib.ListN.{length, drop}
 use Rattle.edges.specs.Line.{LineFound, LineRead}
 use Rattle.edges.specs.Pins.{PinsFound, pins-found, pins-reading, pins-begun}
-use Rattle.edges.specs.Reading.{tilesOf, linksOf, edgesOn, Reading, Few, Begun}
+use Rattle.edges.specs.Reading.{linksOf, edgesOn, Reading, Few, Begun}
 use Rattle.edges.specs.declared.Edges.{Edges}
 use Rattle.edges.specs.declared.EdgesRead.{EdgesRead}
 use Rattle.edges.specs.declared.EdgesRead.the-variants.{Refused as BadEdges}
-use Rattle.layout.specs.Areas.{demandAt, tilesAt, chosenAt}
+use Rattle.layout.specs.Areas.{demandAt, tilesAt, chosenAt, tilesOf}
 use Rattle.layout.specs.Parts.{Outside}
 use Rattle.layout.specs.Shapes.{sizesOf, Shaped}
 use Rattle.layout.specs.Table.{tableSize}

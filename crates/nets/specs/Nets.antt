@@ -4,8 +4,8 @@ use mathlib.Core.List.{List, [], _++_, map}
 use mathlib.Core.Path.{_≡_, refl}
 use Prim.Native.Nat.{ℕ, suc, _+_, _-_, _*_, _≤_, _<_}
 use lib.ListN.{length, getD}
-use Rattle.edges.specs.Reading.{tilesOf, linksOf, Few}
-use Rattle.layout.specs.Areas.{loadsAt, demandAt, flatAt, tilesAt, chosenAt}
+use Rattle.edges.specs.Reading.{linksOf, Few}
+use Rattle.layout.specs.Areas.{loadsAt, demandAt, flatAt, tilesAt, chosenAt, tilesOf}
 use Rattle.layout.specs.Parts.{Outside}
 use Rattle.layout.specs.Table.{tableSize}
 use Rattle.layout.specs.declared.Shape.{Shape}

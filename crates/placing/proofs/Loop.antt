@@ -9,6 +9,7 @@ use native.Mathlib.Numerals.{add-one}
 use native.Mathlib.Omega.{arith}
 use lib.ListN.{length, drop, getD, set, replicate, length-map, drop-of-length-le, List·getD-map}
 use lib.Seq.{drop-cons, ext-getD, getD-set-same, getD-set-other}
+use Rattle.layout.specs.Areas.{tilesOf}
 use Rattle.layout.specs.Table.{turnColumn, viasColumn}
 use Rattle.layout.specs.declared.Shape.{Shape}
 use Rattle.marks.specs.Marks.{Older}
@@ -20,7 +21,6 @@ use Rattle.model.specs.Plan.{planFrom, plan, totalVias}
 use Rattle.model.specs.Read.{Lent}
 use Rattle.model.specs.Score.{Entry, order}
 use Rattle.model.specs.Vias.{vias}
-use Rattle.net.specs.AtHand.{tilesOf}
 use Rattle.net.specs.SoFar.{SoFar}
 use Rattle.net.specs.Table.{Table, TurnsIn, table-set, beside-vias}
 use Rattle.theory.specs.congestion.Base.{in-upFrom}

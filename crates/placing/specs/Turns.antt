@@ -4,6 +4,7 @@ use mathlib.Core.List.{List, []}
 use mathlib.Core.Path.{_≡_}
 use Prim.Native.Nat.{ℕ, suc, _-_, _≤_}
 use lib.ListN.{drop, getD, set, replicate}
+use Rattle.layout.specs.Areas.{tilesOf}
 use Rattle.layout.specs.Table.{pinsColumn, edgesColumn, firstColumn, countColumn}
 use Rattle.layout.specs.declared.Shape.{Shape}
 use Rattle.marks.specs.Marks.{Older}
@@ -12,7 +13,6 @@ use Rattle.model.specs.Job.{Job, netCount, entryCount}
 use Rattle.model.specs.Overflow.{limit}
 use Rattle.model.specs.Plan.{plan, totalVias}
 use Rattle.model.specs.Read.{Lent}
-use Rattle.net.specs.AtHand.{tilesOf}
 use Rattle.net.specs.SoFar.{SoFar}
 use Rattle.net.specs.Table.{Table, TurnsIn}
 use Rattle.net.specs.Held.{Held}

@@ -8,7 +8,7 @@ use native.Mathlib.Omega.{arith}
 use lib.ListN.{length, getD}
 use lib.Seq.{sets}
 use Rattle.head.specs.declared.Head.{Head}
-use Rattle.layout.specs.Areas.{loadsAt, demandAt, flatAt, tilesAt, areasEnd, edge-room}
+use Rattle.layout.specs.Areas.{loadsAt, demandAt, flatAt, tilesAt, areasEnd, edge-room, tilesOf}
 use Rattle.layout.specs.Parts.{Outside, part-outside}
 use Rattle.layout.specs.Shapes.{Shaped}
 use Rattle.layout.specs.declared.Shape.{Shape}
@@ -17,7 +17,6 @@ use Rattle.model.specs.Limits.{mostNets}
 use Rattle.model.specs.Overflow.{limit, ceilDiv}
 use Rattle.model.specs.Plan.{plan}
 use Rattle.model.specs.Read.{Lent, printNeed}
-use Rattle.net.specs.AtHand.{tilesOf}
 use Rattle.net.specs.SoFar.{Capacities}
 use Rattle.net.specs.Table.{PinCounts}
 use Rattle.order.specs.Ready.{Ready, SomeJob, Scored, ready-checked}

@@ -5,13 +5,12 @@ use mathlib.Core.Path.{_≡_}
 use Prim.Native.Nat.{ℕ, suc, _≤_}
 use lib.ListN.{length}
 use Rattle.head.specs.declared.Head.{Head}
-use Rattle.layout.specs.Areas.{areasEnd}
+use Rattle.layout.specs.Areas.{areasEnd, tilesOf}
 use Rattle.layout.specs.Shapes.{shapeOf, Shaped}
 use Rattle.lines.specs.Told.{refusedBy}
 use Rattle.marks.specs.Marks.{Older}
 use Rattle.model.specs.Job.{Job, netCount}
 use Rattle.model.specs.Read.{Lent, Place, found, read}
-use Rattle.net.specs.AtHand.{tilesOf}
 use Rattle.net.specs.SoFar.{Capacities}
 use Rattle.order.specs.Ready.{Scored}
 use Rattle.theory.specs.links.Reading.{Accepted}

@@ -5,12 +5,11 @@ use mathlib.Core.Logic.{inl}
 use mathlib.Core.Path.{_≡_, sym, _∙_, subst}
 use Prim.Native.Nat.{ℕ, suc, _+_, _*_}
 use native.Mathlib.Omega.{arith}
-use Rattle.layout.specs.Areas.{tilesAt, listAt, stopsAt}
+use Rattle.layout.specs.Areas.{tilesAt, listAt, stopsAt, tilesOf}
 use Rattle.layout.specs.Parts.{Outside, part-outside}
 use Rattle.layout.specs.Shapes.{Shaped}
 use Rattle.layout.specs.declared.Shape.{Shape}
 use Rattle.marks.specs.Marks.{Older}
-use Rattle.net.specs.AtHand.{tilesOf}
 use Rattle.net.specs.Table.{PinsAt, EdgesAt}
 use Rattle.netread.specs.Net.{NetThere, LinesOf, NetRead}
 use Rattle.netread.specs.declared.Again.{Again}

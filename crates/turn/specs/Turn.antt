@@ -4,7 +4,7 @@ use mathlib.Core.List.{List, _∷_}
 use mathlib.Core.Path.{_≡_, ap}
 use Prim.Native.Nat.{ℕ, suc, _+_, _-_, _≤_, _<_}
 use lib.ListN.{length, getD, set}
-use Rattle.layout.specs.Areas.{listAt, aboveAt, engineAt}
+use Rattle.layout.specs.Areas.{listAt, aboveAt, engineAt, tilesOf}
 use Rattle.layout.specs.Shapes.{shapeOf}
 use Rattle.layout.specs.declared.Shape.{Shape}
 use Rattle.marks.specs.Marks.{Older}
@@ -17,7 +17,6 @@ use Rattle.model.specs.Read.{Lent}
 use Rattle.model.specs.Score.{Entry}
 use Rattle.model.specs.Vias.{vias}
 use Rattle.model.specs.Walk.{walk}
-use Rattle.net.specs.AtHand.{tilesOf}
 use Rattle.net.specs.SoFar.{SoFar}
 use Rattle.net.specs.Table.{PinsAt, EdgesAt}
 use Rattle.theory.specs.links.Engine.{firstAt, pinsAt}

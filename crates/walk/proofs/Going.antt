@@ -9,7 +9,7 @@ use native.Mathlib.Numerals.{add-one}
 use native.Mathlib.Omega.{arith}
 use lib.ListN.{length, getD, set, length-set}
 use lib.Seq.{getD-set-same, getD-set-other}
-use Rattle.layout.specs.Areas.{tilesAt, stopsAt, aboveAt, engineAt, areasEnd}
+use Rattle.layout.specs.Areas.{tilesAt, stopsAt, aboveAt, engineAt, areasEnd, tilesOf}
 use Rattle.layout.specs.Parts.{Outside, part-at, set-outside, outside-wider, outside-then}
 use Rattle.layout.specs.Shapes.{Shaped, WayRoom}
 use Rattle.layout.specs.declared.Shape.{Shape}
@@ -20,7 +20,6 @@ use Rattle.model.specs.Grid.{gridEdges}
 use Rattle.model.specs.Job.{Job, Net, tileCount}
 use Rattle.model.specs.Lists.{In, has}
 use Rattle.model.specs.Walk.{walk}
-use Rattle.net.specs.AtHand.{tilesOf}
 use Rattle.theory.specs.congestion.Sums.{lt-or-ge}
 use Rattle.theory.specs.links.Edges.{nearOf, lo-is, hi-is, near-is}
 use Rattle.theory.specs.links.Engine.{stopAt, branchesAt, kidsAt, firstAt, edges-few, walk-by-place, above-is, root-above}

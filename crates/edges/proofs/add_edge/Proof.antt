@@ -7,7 +7,7 @@ use Prim.Native.Nat.{ℕ, _+_, _-_, _/_, _≤_, _<_}
 use native.Mathlib.Omega.{arith}
 use lib.ListN.{length, length-set}
 use borrow.Author.Needs.{needs}
-use Rattle.layout.specs.Areas.{demandAt, tilesAt}
+use Rattle.layout.specs.Areas.{demandAt, tilesAt, tilesOf}
 use Rattle.layout.specs.Parts.{Outside}
 use Rattle.layout.specs.Shapes.{wayOf}
 use Rattle.layout.specs.declared.Way.{Way}
@@ -16,7 +16,6 @@ use Rattle.scan.specs.Pins.{triple}
 use Rattle.ways.specs.Ends.{endsOf, endsAfter}
 use Rattle.ways.specs.Entry.{startOf, placed, row-of}
 use Rattle.ways.specs.declared.Ends.the-variants.{New}
-use Rattle.edges.specs.Reading.{tilesOf}
 use Rattle.edges.specs.Steps.{kept-links}
 use Rattle.edges.proofs.Turns.{here-inside, there-inside, edge-inside, add-twice, new-few, add-joined, add-closed, steps-long}
 use Rattle.edges.proofs.add_edge.Statement.{statement}

@@ -6,10 +6,9 @@ use Prim.Native.Nat.{ℕ, _+_, _≤_}
 use native.Mathlib.Omega.{arith}
 use lib.ListN.{length}
 use borrow.Author.Needs.{needs}
-use Rattle.layout.specs.Areas.{tilesAt}
+use Rattle.layout.specs.Areas.{tilesAt, tilesOf}
 use Rattle.layout.specs.Parts.{part-long}
 use Rattle.ways.specs.Ends.{endsOf, endsAfter, ends-long}
-use Rattle.edges.specs.Reading.{tilesOf}
 use Rattle.layout.specs.Lent.{lent-part, put-part, put-outside}
 use Rattle.edges.proofs.put_marks.Statement.{statement}
 use Rattle.edges.proofs.put_marks.Tie as tie

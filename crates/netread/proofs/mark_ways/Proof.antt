@@ -6,11 +6,10 @@ use Prim.Native.Nat.{ℕ, _+_, _≤_}
 use native.Mathlib.Omega.{arith}
 use lib.ListN.{length}
 use borrow.Author.Needs.{needs}
-use Rattle.layout.specs.Areas.{tilesAt}
+use Rattle.layout.specs.Areas.{tilesAt, tilesOf}
 use Rattle.layout.specs.Lent.{lent-part, put-part, put-outside}
 use Rattle.layout.specs.Parts.{part-long}
 use Rattle.marks.specs.Words.{Fits}
-use Rattle.net.specs.AtHand.{tilesOf}
 use Rattle.netread.specs.Edges.{bothAfter, both-long}
 use Rattle.netread.proofs.mark_ways.Statement.{statement}
 use Rattle.netread.proofs.mark_ways.Tie as tie

@@ -7,9 +7,10 @@ use Prim.Native.Nat.{ℕ, _+_}
 use native.Mathlib.Omega.{arith}
 use lib.ListN.{length}
 use borrow.Author.Needs.{needs}
+use Rattle.layout.specs.Areas.{tilesOf}
 use Rattle.edges.specs.Line.{LineRead, LineFound}
 use Rattle.edges.specs.Pins.{PinsFound}
-use Rattle.edges.specs.Reading.{tilesOf, Reading}
+use Rattle.edges.specs.Reading.{Reading}
 use Rattle.edges.specs.declared.Edges.{Edges}
 use Rattle.edges.specs.declared.EdgesRead.{EdgesRead}
 use Rattle.layout.specs.Shapes.{sizesOf}
