@@ -62,7 +62,7 @@ typedef struct layerplan_result {
     uint64_t length;  /* layerplan_print: the bytes of the printed text; layerplan_plan: 0 */
 } layerplan_result;
 
-/* An entry of the order list: the number of a net, from 1, and its score. */
+/* An entry of the order list: the number of a net, from 1, and its score, in which pins on several layers of a tile count once. */
 typedef struct layerplan_entry {
     uint32_t net;
     uint64_t score;

@@ -112,7 +112,7 @@ struct Shape {
     layers: usize,
 }
 
-/// What is kept of a net: where its entries stand, the place of its first layer, its pins' number and later its vias.
+/// What is kept of a net: where its entries stand, the place of its first layer, in how many tiles its pins are and later its vias.
 #[derive(Clone, Copy, Default)]
 struct Kept {
     pins: u32,
@@ -242,10 +242,10 @@ impl Reader<'_> {
         Ok(())
     }
 
-    /// The `pins` line: how many pins there are, in how many tiles.
+    /// The `pins` line: in how many tiles its pins are.
     #[inline(never)]
-    fn pins(&mut self, w: &mut Work, g: Shape, base: u32) -> Result<(u32, u32), Refusal> {
-        let (mut worst, mut pins, mut tiles) = (u64::MAX, 0, 0);
+    fn pins(&mut self, w: &mut Work, g: Shape, base: u32) -> Result<u32, Refusal> {
+        let (mut worst, mut tiles) = (u64::MAX, 0);
         loop {
             let Some((x, place)) = with_comma(self.text, self.at) else { return self.refusal(2) };
             let Some((y, place)) = with_comma(self.text, place) else { return self.refusal(2) };
@@ -255,7 +255,6 @@ impl Reader<'_> {
                 return self.refusal(2);
             }
             self.at = place + 1;
-            pins += 1;
             if x < g.width && y < g.height && layer.wrapping_sub(1) < g.layers {
                 let mark = of(w.marks, y * g.width + x);
                 let old = (*mark).max(base);
@@ -275,7 +274,7 @@ impl Reader<'_> {
         if worst < u64::MAX {
             return self.refusal(worst);
         }
-        Ok((pins, tiles))
+        Ok(tiles)
     }
 
     /// The `edges` line of a net whose pins lie in so many tiles: how many edges there are.
@@ -738,8 +737,8 @@ fn run(text: &[u8], lent: Lent) -> Result<Returned, Refusal> {
         let kept = of(&mut table, net);
         reader.key(b"pins=")?;
         kept.pins = reader.at as u32;
-        let (pins, tiles) = reader.pins(w, g, base)?;
-        kept.number = pins;
+        let tiles = reader.pins(w, g, base)?;
+        kept.number = tiles;
         reader.key(b"edges=")?;
         kept.edges = reader.at as u32;
         kept.first = entries;

@@ -375,8 +375,11 @@ fn plan(job: &Job, lent: Lent) -> Returned {
     for (place, net) in job.nets.iter().enumerate() {
         let d: u64 = net.edges.iter().map(|edge| u64::from(demand[*edge])).sum();
         let c: u64 = net.edges.iter().map(|edge| u64::from(capacity[*edge])).sum();
+        let mut pin_tiles: Vec<usize> = net.pins.iter().map(|pin| pin.0).collect();
+        pin_tiles.sort_unstable();
+        pin_tiles.dedup();
         let score = 1000 * job.alpha / (net.edges.len().max(1) as u64)
-            + 1000 * job.beta * net.pins.len() as u64
+            + 1000 * job.beta * pin_tiles.len() as u64
             + 1000 * job.gamma * d / c.max(1);
         list.push((score, place));
     }

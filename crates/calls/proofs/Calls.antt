@@ -17,7 +17,7 @@ use Rattle.model.specs.Overflow.{totalOverflow, maxOverflow}
 use Rattle.model.specs.Plan.{plan}
 use Rattle.model.specs.Read.{Lent, Place, Result, refused, found, printNeed, printFits, read}
 use Rattle.model.specs.Score.{order}
-use Rattle.net.specs.Table.{Table, table-set, beside-entries}
+use Rattle.net.specs.Table.{Table, table-set, beside-tiles}
 use Rattle.planning.specs.Closing.{Turned, ToClose, ToPrint, PlanMade, PlanClosed, PrintClosed}
 use Rattle.planning.specs.Opening.{OpenFound, OpenTold, netsOf}
 use Rattle.planning.specs.declared.Opened.{Opened}
@@ -41,7 +41,7 @@ use Rattle.calls.specs.Calls.{buffersOf, returnedOf, planOf, sizeOf}
 -- the rows of the net table are kept where net numbers are written
 rows-listed : (s : List ℕ) (j : Job) (es : List Entry) (table : List ℕ) (n : ℕ) → Table s j table → Table s j (listed es table n)
 rows-listed s j es table zero t = t
-rows-listed s j es table (suc k) t = table-set s j (listed es table k) (turnColumn k) (getD es k noEntry .net) (beside-entries k) (rows-listed s j es table k t)
+rows-listed s j es table (suc k) t = table-set s j (listed es table k) (turnColumn k) (getD es k noEntry .net) (beside-tiles k) (rows-listed s j es table k t)
 
 -- ---- the order list is made in the lent entries
 

@@ -16,7 +16,8 @@ use Rattle.marks.specs.Marks.{bitsAt, marked, touched, Older, mark-long, mark-t
 use Rattle.model.specs.Job.{Pin}
 use Rattle.model.specs.Lists.{twice, bit, In}
 use Rattle.model.specs.Read.{Place, Result, refused, found, samePin, pinsLine}
-use Rattle.pins.specs.Laws.{AllInside, first-twice, first-new, still-inside, pins-others, pins-fit}
+use Rattle.model.specs.Score.{differentTiles}
+use Rattle.pins.specs.Laws.{AllInside, first-twice, first-new, still-inside, pins-others, pins-fit, first-tiles}
 use Rattle.lines.specs.Told.{mapped}
 use Rattle.pins.specs.Pins.{Marked, markPin, markPins, markedTwice, newTiles, pinsMarked, pinsTold}
 use Rattle.pins.specs.declared.Pins.{Pins}
@@ -62,7 +63,6 @@ pub record PinsFound (g : Shape) (n : ℕ) (s : List ℕ) (c : Cursor) (b a : Li
   pub is : pinsLine (sizesOf g) (placeOf s c) ≡ found pins (placeOf s d)
   pub fit : PinsFit g pins
   pub marks : a ≡ markPins n b pins
-  pub count : p .entries ≡ length pins
   pub parts : p .tiles ≡ newTiles n b pins
 
 pub pins-found : (g : Shape) → Shaped g → (n : ℕ) (s : List ℕ) (c : Cursor) (b a : List ℕ) (p : Pins) (d : Cursor)
@@ -72,14 +72,13 @@ pins-found g shaped n s c b a p d e = go (pinsLine (sizesOf g) (placeOf s c)) re
     go : (r : Result (List Pin)) → pinsLine (sizesOf g) (placeOf s c) ≡ r → pinsTold s a (Line p d) ≡ mapped (pinsMarked n b) r → PinsFound g n s c b a p d
     go (refused k j) h q = absurd (let y : _≡_ {A = ℕ} 0 1 = cc in omega arith)
     go (found ps t) h q =
-        let left : record { marks = a; entries = p .entries; tiles = p .tiles } ≡ pinsMarked n b ps = cc in
+        let left : record { marks = a; tiles = p .tiles } ≡ pinsMarked n b ps = cc in
         let place : placeOf s d ≡ t = cc in
         record {
           pins = ps;
           is = h ∙ ap (λ (z : Place). found ps z) (sym place);
           fit = pins-fit-grid g shaped (placeOf s c) t ps h;
           marks = ap (λ (m : Marked). m .marks) left;
-          count = ap (λ (m : Marked). m .entries) left;
           parts = ap (λ (m : Marked). m .tiles) left;
         }
 
@@ -156,5 +155,9 @@ module _ (g : Shape) (n : ℕ) (ps : List Pin) (fit : PinsFit g ps) (w₀ w : Li
           (older-counted lo hi (g .t) n (linksOf g w₀) (λ t. bit (touched n (tilesOf g w₀) t)) untouched links-older))
 
   -- the `edges` line may be read
+  -- they are in as many tiles as new ones were found
+  pub pins-tiles : newTiles n (tilesOf g w₀) ps ≡ differentTiles ps
+  pins-tiles = first-tiles n (tilesOf g w₀) tiles-older ps inside new
+
   pub pins-begun : Begun g n (newTiles n (tilesOf g w₀) ps) w
   pins-begun = (ps, fit .some-pin, reading-here g n ps (newTiles n (tilesOf g w₀) ps) w₀ w pins-reading)

@@ -20,11 +20,11 @@ pinsColumn i = netColumns * i
 abbrev pub edgesColumn : ℕ → ℕ
 edgesColumn i = netColumns * i + 1
 
--- the entries of the `pins` line
-abbrev pub entriesColumn : ℕ → ℕ
-entriesColumn i = netColumns * i + 2
+-- in how many tiles the net's pins are
+abbrev pub tilesColumn : ℕ → ℕ
+tilesColumn i = netColumns * i + 2
 
--- the net whose turn is i, once the order list stands: it takes the place of the entries
+-- the net whose turn is i, once the order list stands: it takes the place of the tiles
 abbrev pub turnColumn : ℕ → ℕ
 turnColumn i = netColumns * i + 2
 
@@ -41,7 +41,7 @@ viasColumn i = netColumns * i + 5
 
 -- the score of net i, in halves, from when it is known to when the order list stands
 abbrev pub scoreIn : List ℕ → ℕ → ℕ
-scoreIn table i = getD table (entriesColumn i) 0 + 4_294_967_296 * getD table (viasColumn i) 0
+scoreIn table i = getD table (tilesColumn i) 0 + 4_294_967_296 * getD table (viasColumn i) 0
 
 abbrev pub scorePut : List ℕ → ℕ → ℕ → List ℕ
-scorePut table i v = set (set table (entriesColumn i) (v % 4_294_967_296)) (viasColumn i) (v / 4_294_967_296)
+scorePut table i v = set (set table (tilesColumn i) (v % 4_294_967_296)) (viasColumn i) (v / 4_294_967_296)

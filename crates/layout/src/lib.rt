@@ -6,7 +6,7 @@ ghost use Rattle.model.specs.Read.{workingNeed};
 ghost use Rattle.layout.specs.Shapes.{stackOf, shapeOf, Shaped, wayOf, WayRoom};
 ghost use Rattle.layout.specs.Areas.{loadsAt, demandAt, flatAt, tilesAt, linksAt, chosenAt, listAt, stopsAt, aboveAt, engineAt};
 ghost use lib.ListN.{length, replicate};
-ghost use Rattle.layout.specs.Table.{pinsColumn, edgesColumn, entriesColumn, turnColumn, firstColumn, countColumn, viasColumn, tableSize, scoreIn, scorePut};
+ghost use Rattle.layout.specs.Table.{pinsColumn, edgesColumn, tilesColumn, turnColumn, firstColumn, countColumn, viasColumn, tableSize, scoreIn, scorePut};
 
 // K layers. "Limits belong to the stack".
 pub struct Stack {
@@ -253,10 +253,10 @@ pub fn edges_column(i: usize) -> usize
     COLUMNS * i + 1
 }
 
-// The entries of the `pins` line.
-pub fn entries_column(i: usize) -> usize
+// In how many tiles the net's pins are.
+pub fn tiles_column(i: usize) -> usize
     requires { ⌜ i < mostNets ⌝ }
-    ensures { λ r. ⌜ r ≡ entriesColumn i ⌝ }
+    ensures { λ r. ⌜ r ≡ tilesColumn i ⌝ }
     ensures { λ r. ⌜ r < tableSize ⌝ }
 {
     COLUMNS * i + 2
@@ -280,7 +280,7 @@ pub fn count_column(i: usize) -> usize
     COLUMNS * i + 4
 }
 
-// The net whose turn is i, once the order list stands: it takes the place of the entries of the `pins` line.
+// The net whose turn is i, once the order list stands: it takes the place of the pins' tiles.
 pub fn turn_column(i: usize) -> usize
     requires { ⌜ i < mostNets ⌝ }
     ensures { λ r. ⌜ r ≡ turnColumn i ⌝ }
@@ -298,7 +298,7 @@ pub fn vias_column(i: usize) -> usize
     COLUMNS * i + 5
 }
 
-// ---- the score of a net, from when it is known to when the order list stands: its halves take the places of the entries of the `pins` line and of the vias
+// ---- the score of a net, from when it is known to when the order list stands: its halves take the places of the pins' tiles and of the vias
 
 fn wide(x: u32) -> u64
     ensures { λ r. ⌜ (r ≡ x) × (r < 4294967296) ⌝ }
@@ -310,7 +310,7 @@ pub fn score_in(table: &[u32], i: usize) -> u64
     requires { ⌜ (i < mostNets) × (tableSize ≤ length (now table)) ⌝ }
     ensures { λ r. ⌜ r ≡ scoreIn (now (table .entry)) i ⌝ }
 {
-    let low = wide(table[entries_column(i)]);
+    let low = wide(table[tiles_column(i)]);
     let high = wide(table[vias_column(i)]);
     low + 4294967296 * high
 }
@@ -319,7 +319,7 @@ pub fn put_score(table: &mut [u32], i: usize, v: u64)
     requires { ⌜ (i < mostNets) × (tableSize ≤ length (now table)) ⌝ }
     ensures { λ _. ⌜ now (table .exit) ≡ scorePut (now (table .entry)) i v ⌝ }
 {
-    table[entries_column(i)] = (v % 4294967296) as u32;
+    table[tiles_column(i)] = (v % 4294967296) as u32;
     table[vias_column(i)] = (v / 4294967296) as u32;
 }
 

@@ -77,3 +77,8 @@ module _ {A : Type 0} where
 -- the test of `In`: the number stands in the list
 abbrev pub has : List ℕ → ℕ → Bool
 has xs a = any (eqb a) xs
+
+-- the different numbers of a list: each one once, where it stands last
+abbrev pub different : List ℕ → List ℕ
+different [] = []
+different (x ∷ xs) = let r = different xs in cond (has xs x) r (x ∷ r)

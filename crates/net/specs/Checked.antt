@@ -11,7 +11,7 @@ use Rattle.marks.specs.Marks.{Older}
 use Rattle.model.specs.Job.{Job, netCount}
 use Rattle.model.specs.Overflow.{flatDemand}
 use Rattle.net.specs.SoFar.{Capacities}
-use Rattle.net.specs.Table.{Table, PinCounts}
+use Rattle.net.specs.Table.{Table, PinTiles}
 
 pub record Checked (s : List ℕ) (g : Shape) (j : Job) (w table : List ℕ) : Type 0 where
   pub shape : g ≡ shapeOf (j .width) (j .height) (j .layers)
@@ -25,4 +25,4 @@ pub record Checked (s : List ℕ) (g : Shape) (j : Job) (w table : List ℕ) : T
   -- the marks are those of the N nets read
   pub marks : Older (suc (netCount j)) (tilesOf g w)
   pub rows : Table s j table
-  pub pin-counts : PinCounts j table
+  pub pin-tiles : PinTiles j table

@@ -9,11 +9,11 @@ use Prim.Native.Nat.{ℕ, suc, _≤_, _<_}
 use native.Mathlib.Omega.{arith}
 use lib.ListN.{length, drop, getD, set, length-set}
 use lib.Seq.{getD-set-other}
-use Rattle.layout.specs.Table.{pinsColumn, edgesColumn, entriesColumn, turnColumn, firstColumn, countColumn, viasColumn, tableSize}
+use Rattle.layout.specs.Table.{pinsColumn, edgesColumn, tilesColumn, turnColumn, firstColumn, countColumn, viasColumn, tableSize}
 use Rattle.model.specs.Job.{Net, Job, netCount, netOf, netEdges}
 use Rattle.model.specs.Lists.{all}
 use Rattle.model.specs.Read.{Triple, pinInside, pinAt, edgeInside, edgeAt}
-use Rattle.model.specs.Score.{order}
+use Rattle.model.specs.Score.{differentTiles, order}
 use Rattle.model.specs.Text.{cutLine}
 use Rattle.scan.specs.Pins.{pinsOf}
 use Rattle.scan.specs.Ways.{edgesCut}
@@ -46,9 +46,9 @@ pub record Table (s : List ℕ) (j : Job) (table : List ℕ) : Type 0 where
   pub long : tableSize ≤ length table
   pub rows : (i : ℕ) → i < netCount j → Row s j table i
 
--- the entries of each net's `pins` line
-abbrev pub PinCounts : Job → List ℕ → Type 0
-PinCounts j table = (i : ℕ) → i < netCount j → getD table (entriesColumn i) 0 ≡ length (netOf j (suc i) .pins)
+-- in how many tiles each net's pins are
+abbrev pub PinTiles : Job → List ℕ → Type 0
+PinTiles j table = (i : ℕ) → i < netCount j → getD table (tilesColumn i) 0 ≡ differentTiles (netOf j (suc i) .pins)
 
 -- the net whose turn is k, once the order list stands
 abbrev pub TurnsIn : Job → List ℕ → Type 0
@@ -77,8 +77,8 @@ table-set s j table q v b t = record { long = omega (arith, t .long, length-set 
       first = kept (firstColumn k) (b .first k) ∙ r .first;
     }
 
-pub beside-entries : (i : ℕ) → Beside (entriesColumn i)
-beside-entries i = record { pins = λ k e. omega arith; edges = λ k e. omega arith; first = λ k e. omega arith; count = λ k e. omega arith }
+pub beside-tiles : (i : ℕ) → Beside (tilesColumn i)
+beside-tiles i = record { pins = λ k e. omega arith; edges = λ k e. omega arith; first = λ k e. omega arith; count = λ k e. omega arith }
 
 pub beside-vias : (i : ℕ) → Beside (viasColumn i)
 beside-vias i = record { pins = λ k e. omega arith; edges = λ k e. omega arith; first = λ k e. omega arith; count = λ k e. omega arith }

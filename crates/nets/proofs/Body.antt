@@ -6,7 +6,7 @@ use Prim.Native.Nat.{ℕ, _+_, _*_, _≤_, _<_}
 use native.Mathlib.Omega.{arith}
 use lib.ListN.{length, drop}
 use Rattle.edges.specs.Line.{LineFound, LineRead}
-use Rattle.edges.specs.Pins.{PinsFound, pins-found, pins-reading, pins-begun}
+use Rattle.edges.specs.Pins.{PinsFound, pins-found, pins-reading, pins-tiles, pins-begun}
 use Rattle.edges.specs.Reading.{linksOf, edgesOn, Reading, Few, Begun}
 use Rattle.edges.specs.declared.Edges.{Edges}
 use Rattle.edges.specs.declared.EdgesRead.{EdgesRead}
@@ -21,6 +21,7 @@ use Rattle.marks.specs.Marks.{fits-older}
 use Rattle.model.specs.Job.{Net}
 use Rattle.model.specs.Limits.{mostNets}
 use Rattle.model.specs.Read.{Place, Result, refused, found, pinsLine, edgesLine}
+use Rattle.model.specs.Score.{differentTiles}
 use Rattle.net.specs.Table.{PinsAt, EdgesAt}
 use Rattle.pins.specs.Pins.{pinsIn, pinsTold, pinsMarked}
 use Rattle.pins.specs.declared.Pins.{Pins}
@@ -34,6 +35,7 @@ use Rattle.theory.specs.links.Nets.{NetOk, tree-of}
 use Rattle.theory.specs.links.Reach.{loOf, hiOf}
 use Rattle.theory.specs.links.Reading.{PinsOk, EdgesOk, gives-found, pins-give, edges-give}
 use Rattle.theory.specs.links.Scores.{pins-few}
+use Rattle.theory.specs.links.Stacked.{pin-tiles-few}
 use Rattle.theory.specs.walk.GridNet.{net-room}
 use Rattle.union.specs.Links.{links-older}
 use Rattle.nets.specs.Rows.{rowPut}
@@ -131,8 +133,13 @@ module _ (s : List ℕ) (c : Cursor) (g : Shape) (shaped : Shaped g) (i : ℕ) (
       pub ok : NetOk (g .w) (g .h) (g .k) (record { pins = fine .pins; edges = edgesOn g (line .line .entries) })
       ok = net-ok g net (placeOf s c) _ _ _ (fine .is) (line .is)
 
-      pub pins-number : p .entries ≤ 16777216
-      pins-number = omega (arith, fine .count, pins-few W H K net (shaped .k-most) ok, shaped .t-is, shaped .t-most)
+      tiles-are : p .tiles ≡ differentTiles (fine .pins)
+      tiles-are =
+          fine .parts
+          ∙ pins-tiles g (i + 1) (fine .pins) (fine .fit) w₀ w₁ (ready .room) (λ t. omega (arith, ready .marks t)) (λ t. omega (arith, ready .links t)) out (fine .marks)
+
+      pub pins-number : p .tiles ≤ 16777216
+      pins-number = omega (arith, tiles-are, pin-tiles-few (fine .pins), pins-few W H K net (shaped .k-most) ok, shaped .t-is, shaped .t-most)
 
       stands : EdgesAt s (g .w) (g .h) (e .from) (record { pins = fine .pins; edges = edgesOn g (line .line .entries) })
       stands = record {
@@ -158,7 +165,7 @@ module _ (s : List ℕ) (c : Cursor) (g : Shape) (shaped : Shaped g) (i : ℕ) (
           }
 
       pub body-found : (table : List ℕ) (first : ℕ) → tableSize ≤ length table
-          → NetFound s g i first (c .line + 2) w₀ w₂ table (rowPut table i (p .from) (e .from) (p .entries) first (e .entries)) (bodyIn (sizesOf g) (placeOf s c)) f (e .entries)
+          → NetFound s g i first (c .line + 2) w₀ w₂ table (rowPut table i (p .from) (e .from) (p .tiles) first (e .entries)) (bodyIn (sizesOf g) (placeOf s c)) f (e .entries)
       unfolding bodyIn
       body-found table first room = record {
         net = net;
@@ -167,8 +174,8 @@ module _ (s : List ℕ) (c : Cursor) (g : Shape) (shaped : Shaped g) (i : ℕ) (
         count-is = line .line .count-is;
         counted = counted;
         row =
-            row-stands table i (p .from) (e .from) (p .entries) first (e .entries) (ready .turn) room s W H K net
-            (subst (λ (m : ℕ). PinsAt s W H K m net) (sym (at .0)) (pins-stand s W H K (c .at) net (c .line) _ (fine .is))) stands (fine .count) (line .line .count-is);
-        table-long = row-long table i (p .from) (e .from) (p .entries) first (e .entries) (ready .turn) room;
-        rows-before = row-others table i (p .from) (e .from) (p .entries) first (e .entries) (ready .turn) room;
+            row-stands table i (p .from) (e .from) (p .tiles) first (e .entries) (ready .turn) room s W H K net
+            (subst (λ (m : ℕ). PinsAt s W H K m net) (sym (at .0)) (pins-stand s W H K (c .at) net (c .line) _ (fine .is))) stands tiles-are (line .line .count-is);
+        table-long = row-long table i (p .from) (e .from) (p .tiles) first (e .entries) (ready .turn) room;
+        rows-before = row-others table i (p .from) (e .from) (p .tiles) first (e .entries) (ready .turn) room;
       }

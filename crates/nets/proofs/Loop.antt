@@ -10,7 +10,7 @@ use lib.Seq.{getD-append-seam}
 use Rattle.layout.specs.Areas.{demandAt, tilesAt, linksAt, chosenAt}
 use Rattle.layout.specs.Parts.{part, part-at}
 use Rattle.layout.specs.Shapes.{sizesOf, Shaped, mostTiles}
-use Rattle.layout.specs.Table.{pinsColumn, edgesColumn, entriesColumn, firstColumn, countColumn}
+use Rattle.layout.specs.Table.{pinsColumn, edgesColumn, tilesColumn, firstColumn, countColumn}
 use Rattle.layout.specs.declared.Shape.{Shape}
 use Rattle.lines.specs.Told.{refusedBy}
 use Rattle.marks.specs.Words.{stampUnit}
@@ -80,7 +80,7 @@ row-kept : (s : List ℕ) (W H K : ℕ) (t t′ : List ℕ) (i k first : ℕ) (n
 row-kept s W H K t t′ i k first net b h r = record {
   pins = subst (λ (p : ℕ). PinsAt s W H K p net) (sym (h (pinsColumn k) (omega arith))) (r .pins);
   edges = subst (λ (p : ℕ). EdgesAt s W H p net) (sym (h (edgesColumn k) (omega arith))) (r .edges);
-  pin-count = h (entriesColumn k) (omega arith) ∙ r .pin-count;
+  pin-tiles = h (tilesColumn k) (omega arith) ∙ r .pin-tiles;
   edge-count = h (countColumn k) (omega arith) ∙ r .edge-count;
   first-is = h (firstColumn k) (omega arith) ∙ r .first-is;
 }

@@ -8,8 +8,9 @@ use Prim.Native.Nat.{ℕ, suc, _+_, _*_, _≤_, _<_}
 use native.Mathlib.Omega.{arith}
 use lib.ListN.{length, drop, getD, set, length-set}
 use lib.Seq.{drop-drop, getD-set-same, getD-set-other}
-use Rattle.layout.specs.Table.{pinsColumn, edgesColumn, entriesColumn, firstColumn, countColumn, tableSize}
+use Rattle.layout.specs.Table.{pinsColumn, edgesColumn, tilesColumn, firstColumn, countColumn, tableSize}
 use Rattle.model.specs.Job.{Net}
+use Rattle.model.specs.Score.{differentTiles}
 use Rattle.model.specs.Limits.{mostNets}
 use Rattle.model.specs.Lists.{all, twice}
 use Rattle.model.specs.Read.{Place, refused, found, pinInside, pinAt, samePin, pinsLine}
@@ -54,10 +55,10 @@ module _ (t : List ℕ) (i a b c d e : ℕ) (turn : i < mostNets) (long : tableS
   t₂ = set (set t (pinsColumn i) a) (edgesColumn i) b
 
   abbrev t₃ : List ℕ
-  t₃ = set (set (set t (pinsColumn i) a) (edgesColumn i) b) (entriesColumn i) c
+  t₃ = set (set (set t (pinsColumn i) a) (edgesColumn i) b) (tilesColumn i) c
 
   abbrev t₄ : List ℕ
-  t₄ = set (set (set (set t (pinsColumn i) a) (edgesColumn i) b) (entriesColumn i) c) (firstColumn i) d
+  t₄ = set (set (set (set t (pinsColumn i) a) (edgesColumn i) b) (tilesColumn i) c) (firstColumn i) d
 
   long₁ : length t₁ ≡ length t
   long₁ = length-set t (pinsColumn i) a
@@ -66,7 +67,7 @@ module _ (t : List ℕ) (i a b c d e : ℕ) (turn : i < mostNets) (long : tableS
   long₂ = length-set t₁ (edgesColumn i) b ∙ long₁
 
   long₃ : length t₃ ≡ length t
-  long₃ = length-set t₂ (entriesColumn i) c ∙ long₂
+  long₃ = length-set t₂ (tilesColumn i) c ∙ long₂
 
   long₄ : length t₄ ≡ length t
   long₄ = length-set t₃ (firstColumn i) d ∙ long₃
@@ -78,7 +79,7 @@ module _ (t : List ℕ) (i a b c d e : ℕ) (turn : i < mostNets) (long : tableS
   row-others k h =
       getD-set-other t₄ (countColumn i) k e 0 (λ p. omega arith)
       ∙ getD-set-other t₃ (firstColumn i) k d 0 (λ p. omega arith)
-      ∙ getD-set-other t₂ (entriesColumn i) k c 0 (λ p. omega arith)
+      ∙ getD-set-other t₂ (tilesColumn i) k c 0 (λ p. omega arith)
       ∙ getD-set-other t₁ (edgesColumn i) k b 0 (λ p. omega arith)
       ∙ getD-set-other t (pinsColumn i) k a 0 (λ p. omega arith)
 
@@ -86,7 +87,7 @@ module _ (t : List ℕ) (i a b c d e : ℕ) (turn : i < mostNets) (long : tableS
   row-pins =
       getD-set-other t₄ (countColumn i) (pinsColumn i) e 0 (λ p. omega arith)
       ∙ getD-set-other t₃ (firstColumn i) (pinsColumn i) d 0 (λ p. omega arith)
-      ∙ getD-set-other t₂ (entriesColumn i) (pinsColumn i) c 0 (λ p. omega arith)
+      ∙ getD-set-other t₂ (tilesColumn i) (pinsColumn i) c 0 (λ p. omega arith)
       ∙ getD-set-other t₁ (edgesColumn i) (pinsColumn i) b 0 (λ p. omega arith)
       ∙ getD-set-same t (pinsColumn i) a 0 (omega arith)
 
@@ -94,14 +95,14 @@ module _ (t : List ℕ) (i a b c d e : ℕ) (turn : i < mostNets) (long : tableS
   row-edges =
       getD-set-other t₄ (countColumn i) (edgesColumn i) e 0 (λ p. omega arith)
       ∙ getD-set-other t₃ (firstColumn i) (edgesColumn i) d 0 (λ p. omega arith)
-      ∙ getD-set-other t₂ (entriesColumn i) (edgesColumn i) c 0 (λ p. omega arith)
+      ∙ getD-set-other t₂ (tilesColumn i) (edgesColumn i) c 0 (λ p. omega arith)
       ∙ getD-set-same t₁ (edgesColumn i) b 0 (omega (arith, long₁))
 
-  row-entries : getD (rowPut t i a b c d e) (entriesColumn i) 0 ≡ c
-  row-entries =
-      getD-set-other t₄ (countColumn i) (entriesColumn i) e 0 (λ p. omega arith)
-      ∙ getD-set-other t₃ (firstColumn i) (entriesColumn i) d 0 (λ p. omega arith)
-      ∙ getD-set-same t₂ (entriesColumn i) c 0 (omega (arith, long₂))
+  row-tiles : getD (rowPut t i a b c d e) (tilesColumn i) 0 ≡ c
+  row-tiles =
+      getD-set-other t₄ (countColumn i) (tilesColumn i) e 0 (λ p. omega arith)
+      ∙ getD-set-other t₃ (firstColumn i) (tilesColumn i) d 0 (λ p. omega arith)
+      ∙ getD-set-same t₂ (tilesColumn i) c 0 (omega (arith, long₂))
 
   row-first : getD (rowPut t i a b c d e) (firstColumn i) 0 ≡ d
   row-first =
@@ -111,12 +112,12 @@ module _ (t : List ℕ) (i a b c d e : ℕ) (turn : i < mostNets) (long : tableS
   row-count : getD (rowPut t i a b c d e) (countColumn i) 0 ≡ e
   row-count = getD-set-same t₄ (countColumn i) e 0 (omega (arith, long₄))
 
-  pub row-stands : (s : List ℕ) (W H K : ℕ) (net : Net) → PinsAt s W H K a net → EdgesAt s W H b net → c ≡ length (net .pins) → e ≡ length (net .edges)
+  pub row-stands : (s : List ℕ) (W H K : ℕ) (net : Net) → PinsAt s W H K a net → EdgesAt s W H b net → c ≡ differentTiles (net .pins) → e ≡ length (net .edges)
       → RowAt s W H K (rowPut t i a b c d e) i d net
-  row-stands s W H K net pins edges pin-count edge-count = record {
+  row-stands s W H K net pins edges pin-tiles edge-count = record {
     pins = rw row-pins pins;
     edges = rw row-edges edges;
-    pin-count = row-entries ∙ pin-count;
+    pin-tiles = row-tiles ∙ pin-tiles;
     edge-count = row-count ∙ edge-count;
     first-is = row-first;
   }

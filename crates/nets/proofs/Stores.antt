@@ -5,7 +5,7 @@ use mathlib.Core.Path.{_≡_}
 use Prim.Native.Nat.{ℕ, _<_}
 use native.Mathlib.Omega.{arith}
 use lib.ListN.{length, set, length-set}
-use Rattle.layout.specs.Table.{pinsColumn, edgesColumn, entriesColumn, firstColumn, countColumn}
+use Rattle.layout.specs.Table.{pinsColumn, edgesColumn, tilesColumn, firstColumn, countColumn}
 use Rattle.nets.specs.Rows.{rowPut}
 
 -- a place is still in the table
@@ -23,6 +23,6 @@ module _ (t : List ℕ) (i : ℕ) (h : i < length t) (a x b y c z d u : ℕ) whe
   still-four = omega (arith, still-three, length-set (set (set (set t a x) b y) c z) d u)
 
 -- all five, where each place is that of its column
-pub row-is : (t : List ℕ) (i a b c d e x y z u v : ℕ) → a ≡ pinsColumn i → b ≡ edgesColumn i → c ≡ entriesColumn i → d ≡ firstColumn i → e ≡ countColumn i
+pub row-is : (t : List ℕ) (i a b c d e x y z u v : ℕ) → a ≡ pinsColumn i → b ≡ edgesColumn i → c ≡ tilesColumn i → d ≡ firstColumn i → e ≡ countColumn i
     → set (set (set (set (set t a x) b y) c z) d u) e v ≡ rowPut t i x y z u v
 row-is t i a b c d e x y z u v p q r k l = rw (p, q, r, k, l)

@@ -4,19 +4,20 @@ use mathlib.Core.List.{List}
 use mathlib.Core.Path.{_≡_}
 use Prim.Native.Nat.{ℕ}
 use lib.ListN.{length, getD, set}
-use Rattle.layout.specs.Table.{pinsColumn, edgesColumn, entriesColumn, firstColumn, countColumn}
+use Rattle.layout.specs.Table.{pinsColumn, edgesColumn, tilesColumn, firstColumn, countColumn}
 use Rattle.model.specs.Job.{Net}
+use Rattle.model.specs.Score.{differentTiles}
 use Rattle.net.specs.Table.{PinsAt, EdgesAt}
 
--- the table with the row of net i, counted from 0: the places of its entries, how many they are, and the place of its first layer
+-- the table with the row of net i, counted from 0: the places of its entries, in how many tiles its pins are, the place of its first layer, and how many edges it has
 abbrev pub rowPut : List ℕ → ℕ → ℕ → ℕ → ℕ → ℕ → ℕ → List ℕ
-rowPut table i pins edges entries first count =
-    set (set (set (set (set table (pinsColumn i) pins) (edgesColumn i) edges) (entriesColumn i) entries) (firstColumn i) first) (countColumn i) count
+rowPut table i pins edges tiles first count =
+    set (set (set (set (set table (pinsColumn i) pins) (edgesColumn i) edges) (tilesColumn i) tiles) (firstColumn i) first) (countColumn i) count
 
 -- the row says of net i what the text s has, and where the layers of the net begin
 pub record RowAt (s : List ℕ) (W H K : ℕ) (table : List ℕ) (i first : ℕ) (net : Net) : Type 0 where
   pub pins : PinsAt s W H K (getD table (pinsColumn i) 0) net
   pub edges : EdgesAt s W H (getD table (edgesColumn i) 0) net
-  pub pin-count : getD table (entriesColumn i) 0 ≡ length (net .pins)
+  pub pin-tiles : getD table (tilesColumn i) 0 ≡ differentTiles (net .pins)
   pub edge-count : getD table (countColumn i) 0 ≡ length (net .edges)
   pub first-is : getD table (firstColumn i) 0 ≡ first

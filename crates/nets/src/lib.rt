@@ -78,13 +78,13 @@ pub struct Row {
 // What the lines of a net say in its row.
 fn put_row(table: &mut [u32], row: Row, pins: Pins, edges: Edges)
     requires { ⌜ (row .i < mostNets) × (tableSize ≤ length (now table)) ⌝ }
-    requires { ⌜ (pins .from ≤ 16777216) × (edges .from ≤ 16777216) × (pins .entries ≤ 16777216) × (row .first ≤ 16777216) × (edges .entries ≤ 16777216) ⌝ }
-    ensures { λ _. ⌜ now (table .exit) ≡ rowPut (now (table .entry)) (row .i) (pins .from) (edges .from) (pins .entries) (row .first) (edges .entries) ⌝ }
+    requires { ⌜ (pins .from ≤ 16777216) × (edges .from ≤ 16777216) × (pins .tiles ≤ 16777216) × (row .first ≤ 16777216) × (edges .entries ≤ 16777216) ⌝ }
+    ensures { λ _. ⌜ now (table .exit) ≡ rowPut (now (table .entry)) (row .i) (pins .from) (edges .from) (pins .tiles) (row .first) (edges .entries) ⌝ }
 {
     let i = row.i;
     table[layout::pins_column(i)] = pins.from as u32;
     table[layout::edges_column(i)] = edges.from as u32;
-    table[layout::entries_column(i)] = pins.entries as u32;
+    table[layout::tiles_column(i)] = pins.tiles as u32;
     table[layout::first_column(i)] = row.first as u32;
     table[layout::count_column(i)] = edges.entries as u32;
 }

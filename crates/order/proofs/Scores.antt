@@ -7,11 +7,11 @@ use native.Mathlib.Nat.{mul-le-mul}
 use native.Mathlib.Omega.{arith}
 use lib.ListN.{length, getD}
 use Rattle.layout.specs.Shapes.{Shaped, mostTiles}
-use Rattle.layout.specs.Table.{edgesColumn, entriesColumn, countColumn}
+use Rattle.layout.specs.Table.{edgesColumn, tilesColumn, countColumn}
 use Rattle.layout.specs.declared.Shape.{Shape}
 use Rattle.model.specs.Job.{Net, Job, netCount, netOf}
 use Rattle.model.specs.Read.{Lent}
-use Rattle.model.specs.Score.{lengthTerm, pinTerm, densityTerm, score}
+use Rattle.model.specs.Score.{lengthTerm, pinTerm, densityTerm, differentTiles, score}
 use Rattle.net.specs.Left.{EdgesThere, edges-there}
 use Rattle.net.specs.Table.{EdgesAt, Row}
 use Rattle.order.specs.declared.Density.{Density}
@@ -20,6 +20,7 @@ use Rattle.theory.specs.links.Limits.{demands-small}
 use Rattle.theory.specs.links.Nets.{NetOk}
 use Rattle.theory.specs.links.Planned.{net-ok}
 use Rattle.theory.specs.links.Scores.{tiles-few, pins-few}
+use Rattle.theory.specs.links.Stacked.{pin-tiles-few}
 use Rattle.order.specs.Density.{Weighed}
 use Rattle.order.specs.Ready.{Ready}
 use Rattle.order.specs.declared.Weights.{Weights}
@@ -47,11 +48,12 @@ module _ (s : List ℕ) (g : Shape) (a : Weights) (w table : List ℕ) (lent : L
   weights-small =
       (omega (arith, ready .alpha, ready .accepted .alpha), omega (arith, ready .beta, ready .accepted .beta), omega (arith, ready .gamma, ready .accepted .gamma))
 
-  pub pins-small : (p : ℕ) → p ≡ getD table (entriesColumn i) 0 → getD table (entriesColumn i) 0 ≡ length (netOf j (suc i) .pins) → p ≤ 1_048_576
+  pub pins-small : (p : ℕ) → p ≡ getD table (tilesColumn i) 0 → getD table (tilesColumn i) 0 ≡ differentTiles (netOf j (suc i) .pins) → p ≤ 1_048_576
   pins-small p e are =
       omega (
         arith,
         are,
+        pin-tiles-few (netOf j (suc i) .pins),
         pins-few (j .width) (j .height) (j .layers) net (ready .accepted .layers .1) ok,
         tiles-few lent j (ready .accepted),
       )
@@ -61,7 +63,7 @@ module _ (s : List ℕ) (g : Shape) (a : Weights) (w table : List ℕ) (lent : L
       let few : length (net .edges) ≤ mostTiles = omega (arith, edges-few j (ready .accepted .width .0) (ready .accepted .height .0) net ok, tiles-few lent j (ready .accepted)) in
       omega (arith, d .most, demands-small lent j (ready .accepted) (net .edges), mul-le-mul few (ready .accepted .net-count))
 
-  pub score-is : (e p : ℕ) (x : Density) → e ≡ getD table (countColumn i) 0 → p ≡ getD table (entriesColumn i) 0 → getD table (entriesColumn i) 0 ≡ length (netOf j (suc i) .pins) → Weighed (a .gamma) j (netOf j (suc i)) x
+  pub score-is : (e p : ℕ) (x : Density) → e ≡ getD table (countColumn i) 0 → p ≡ getD table (tilesColumn i) 0 → getD table (tilesColumn i) 0 ≡ differentTiles (netOf j (suc i) .pins) → Weighed (a .gamma) j (netOf j (suc i)) x
       → (r : ℕ) → r ≡ lengthTerm (a .alpha) e + pinTerm (a .beta) p + densityTerm (a .gamma) (x .demand) (x .capacity) → r ≡ score j (netOf j (suc i))
   unfolding score
   score-is e p x e-is p-is are d r r-is =

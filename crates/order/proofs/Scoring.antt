@@ -7,13 +7,13 @@ use native.Mathlib.Decide.{decLt}
 use native.Mathlib.Omega.{arith}
 use lib.ListN.{length, getD, set, length-set}
 use lib.Seq.{getD-set-same, getD-set-other}
-use Rattle.layout.specs.Table.{entriesColumn, viasColumn, tableSize, scoreIn, scorePut}
+use Rattle.layout.specs.Table.{tilesColumn, viasColumn, tableSize, scoreIn, scorePut}
 use Rattle.layout.specs.declared.Shape.{Shape}
 use Rattle.model.specs.Job.{Job, netCount, netOf}
 use Rattle.model.specs.Limits.{mostNets}
 use Rattle.model.specs.Read.{Lent}
-use Rattle.model.specs.Score.{score}
-use Rattle.net.specs.Table.{Table, PinCounts, table-set, beside-entries, beside-vias}
+use Rattle.model.specs.Score.{differentTiles, score}
+use Rattle.net.specs.Table.{Table, PinTiles, table-set, beside-tiles, beside-vias}
 use Rattle.order.specs.Ready.{Ready, SomeJob, SomeNet, Scored}
 use Rattle.order.specs.declared.Weights.{Weights}
 
@@ -21,33 +21,33 @@ use Rattle.order.specs.declared.Weights.{Weights}
 
 module _ (table : List ℕ) (i v : ℕ) where
   abbrev low : List ℕ
-  low = set table (entriesColumn i) (v % 4_294_967_296)
+  low = set table (tilesColumn i) (v % 4_294_967_296)
 
   pub put-long : length (scorePut table i v) ≡ length table
-  put-long = length-set low (viasColumn i) (v / 4_294_967_296) ∙ length-set table (entriesColumn i) (v % 4_294_967_296)
+  put-long = length-set low (viasColumn i) (v / 4_294_967_296) ∙ length-set table (tilesColumn i) (v % 4_294_967_296)
 
-  pub put-entries : (k : ℕ) → i < k → getD (scorePut table i v) (entriesColumn k) 0 ≡ getD table (entriesColumn k) 0
-  put-entries k h =
-      getD-set-other low (viasColumn i) (entriesColumn k) (v / 4_294_967_296) 0 (λ e. omega arith)
-      ∙ getD-set-other table (entriesColumn i) (entriesColumn k) (v % 4_294_967_296) 0 (λ e. omega arith)
+  pub put-tiles : (k : ℕ) → i < k → getD (scorePut table i v) (tilesColumn k) 0 ≡ getD table (tilesColumn k) 0
+  put-tiles k h =
+      getD-set-other low (viasColumn i) (tilesColumn k) (v / 4_294_967_296) 0 (λ e. omega arith)
+      ∙ getD-set-other table (tilesColumn i) (tilesColumn k) (v % 4_294_967_296) 0 (λ e. omega arith)
 
   put-other : (k : ℕ) → k < i → scoreIn (scorePut table i v) k ≡ scoreIn table k
   put-other k h =
       ap₂ (λ (x y : ℕ). x + 4_294_967_296 * y)
-      (getD-set-other low (viasColumn i) (entriesColumn k) (v / 4_294_967_296) 0 (λ e. omega arith) ∙ getD-set-other table (entriesColumn i) (entriesColumn k) (v % 4_294_967_296) 0 (λ e. omega arith))
-      (getD-set-other low (viasColumn i) (viasColumn k) (v / 4_294_967_296) 0 (λ e. omega arith) ∙ getD-set-other table (entriesColumn i) (viasColumn k) (v % 4_294_967_296) 0 (λ e. omega arith))
+      (getD-set-other low (viasColumn i) (tilesColumn k) (v / 4_294_967_296) 0 (λ e. omega arith) ∙ getD-set-other table (tilesColumn i) (tilesColumn k) (v % 4_294_967_296) 0 (λ e. omega arith))
+      (getD-set-other low (viasColumn i) (viasColumn k) (v / 4_294_967_296) 0 (λ e. omega arith) ∙ getD-set-other table (tilesColumn i) (viasColumn k) (v % 4_294_967_296) 0 (λ e. omega arith))
 
   put-here : i < mostNets → tableSize ≤ length table → scoreIn (scorePut table i v) i ≡ v
   put-here h long =
       omega (
         arith,
-        getD-set-other low (viasColumn i) (entriesColumn i) (v / 4_294_967_296) 0 (λ e. omega arith),
-        getD-set-same table (entriesColumn i) (v % 4_294_967_296) 0 (omega arith),
-        getD-set-same low (viasColumn i) (v / 4_294_967_296) 0 (omega (arith, length-set table (entriesColumn i) (v % 4_294_967_296))),
+        getD-set-other low (viasColumn i) (tilesColumn i) (v / 4_294_967_296) 0 (λ e. omega arith),
+        getD-set-same table (tilesColumn i) (v % 4_294_967_296) 0 (omega arith),
+        getD-set-same low (viasColumn i) (v / 4_294_967_296) 0 (omega (arith, length-set table (tilesColumn i) (v % 4_294_967_296))),
       )
 
   put-rows : (s : List ℕ) (j : Job) → Table s j table → Table s j (scorePut table i v)
-  put-rows s j t = table-set s j low (viasColumn i) (v / 4_294_967_296) (beside-vias i) (table-set s j table (entriesColumn i) (v % 4_294_967_296) (beside-entries i) t)
+  put-rows s j t = table-set s j low (viasColumn i) (v / 4_294_967_296) (beside-vias i) (table-set s j table (tilesColumn i) (v % 4_294_967_296) (beside-tiles i) t)
 
 -- ---- the loop
 
@@ -55,9 +55,9 @@ module _ (table : List ℕ) (i v : ℕ) where
 pub record Scoring (s : List ℕ) (g : Shape) (a : Weights) (w old : List ℕ) (n : ℕ) (table : List ℕ) (i : ℕ) : Type 0 where
   pub below : i ≤ n
   pub long : length table ≡ length old
-  pub left : (k : ℕ) → i ≤ k → getD table (entriesColumn k) 0 ≡ getD old (entriesColumn k) 0
+  pub left : (k : ℕ) → i ≤ k → getD table (tilesColumn k) 0 ≡ getD old (tilesColumn k) 0
   pub rows : (j : Job) → Table s j old → Table s j table
-  pub scores : (lent : Lent) (j : Job) → Ready s g a w old lent j → PinCounts j old → n ≡ netCount j → (k : ℕ) → k < i → scoreIn table k ≡ score j (netOf j (suc k))
+  pub scores : (lent : Lent) (j : Job) → Ready s g a w old lent j → PinTiles j old → n ≡ netCount j → (k : ℕ) → k < i → scoreIn table k ≡ score j (netOf j (suc k))
 
 module _ (s : List ℕ) (g : Shape) (a : Weights) (w old : List ℕ) (n : ℕ) where
   pub scoring-first : Scoring s g a w old n old 0
@@ -92,17 +92,17 @@ module _ (s : List ℕ) (g : Shape) (a : Weights) (w old : List ℕ) (n : ℕ) w
       few = (omega (arith, o .count, o .ready .accepted .net-count), f .rows (o .job) (o .ready .rows) .long)
 
       pub scoring-next : (v : ℕ)
-          → ((lent : Lent) (j : Job) → Ready s g a w table lent j → i < netCount j → getD table (entriesColumn i) 0 ≡ length (netOf j (suc i) .pins) → v ≡ score j (netOf j (suc i)))
+          → ((lent : Lent) (j : Job) → Ready s g a w table lent j → i < netCount j → getD table (tilesColumn i) 0 ≡ differentTiles (netOf j (suc i) .pins) → v ≡ score j (netOf j (suc i)))
           → Scoring s g a w old n (scorePut table i v) (i + 1)
       scoring-next v is = record {
         below = omega arith;
         long = put-long table i v ∙ f .long;
-        left = λ k l. put-entries table i v k (omega arith) ∙ f .left k (omega arith);
+        left = λ k l. put-tiles table i v k (omega arith) ∙ f .left k (omega arith);
         rows = λ j t. put-rows table i v s j (f .rows j t);
         scores = λ lent j ready pins c k l. go lent j ready pins c k l (decLt k i);
       }
         where
-          go : (lent : Lent) (j : Job) → Ready s g a w old lent j → PinCounts j old → n ≡ netCount j → (k : ℕ) → k < i + 1 → Dec (k < i) → scoreIn (scorePut table i v) k ≡ score j (netOf j (suc k))
+          go : (lent : Lent) (j : Job) → Ready s g a w old lent j → PinTiles j old → n ≡ netCount j → (k : ℕ) → k < i + 1 → Dec (k < i) → scoreIn (scorePut table i v) k ≡ score j (netOf j (suc k))
           go lent j ready pins c k l (yes d) = put-other table i v k d ∙ f .scores lent j ready pins c k d
           go lent j ready pins c k l (no d) =
               let e : k ≡ i = omega arith in
@@ -111,7 +111,7 @@ module _ (s : List ℕ) (g : Shape) (a : Weights) (w old : List ℕ) (n : ℕ) w
               ∙ is lent j (still-ready lent j ready) b (f .left i (omega arith) ∙ pins i b)
               ∙ ap (λ (x : ℕ). score j (netOf j (suc x))) (omega arith)
 
-    pub scoring-done : n ≤ i → (lent : Lent) (j : Job) → Ready s g a w old lent j → PinCounts j old → n ≡ netCount j → Scored s j table
+    pub scoring-done : n ≤ i → (lent : Lent) (j : Job) → Ready s g a w old lent j → PinTiles j old → n ≡ netCount j → Scored s j table
     scoring-done h lent j ready pins c = record {
       rows = f .rows j (ready .rows);
       scores = λ k l. f .scores lent j ready pins c k (omega (arith, c, f .below));

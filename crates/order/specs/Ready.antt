@@ -7,13 +7,13 @@ use native.Mathlib.Omega.{arith}
 use lib.ListN.{length, getD}
 use Rattle.layout.specs.Areas.{demandAt, flatAt}
 use Rattle.layout.specs.Parts.{Outside}
-use Rattle.layout.specs.Table.{entriesColumn, scoreIn}
+use Rattle.layout.specs.Table.{tilesColumn, scoreIn}
 use Rattle.layout.specs.declared.Shape.{Shape}
 use Rattle.model.specs.Job.{Job, netCount, netOf}
 use Rattle.model.specs.Read.{Lent}
-use Rattle.model.specs.Score.{score}
+use Rattle.model.specs.Score.{differentTiles, score}
 use Rattle.net.specs.Checked.{Checked}
-use Rattle.net.specs.Table.{Table, PinCounts}
+use Rattle.net.specs.Table.{Table, PinTiles}
 use Rattle.theory.specs.links.Reading.{Accepted}
 use Rattle.flat.specs.FlatPlan.{FlatDemands, FlatCapacities}
 use Rattle.order.specs.declared.Weights.{Weights}
@@ -37,7 +37,7 @@ pub record SomeJob (s : List ℕ) (g : Shape) (a : Weights) (w table : List ℕ)
   pub lent : Lent
   pub job : Job
   pub ready : Ready s g a w table lent job
-  pub pins : PinCounts job table
+  pub pins : PinTiles job table
   pub count : n ≡ netCount job
 
 -- so it is with some job that has a net in place i, from 0
@@ -46,7 +46,7 @@ pub record SomeNet (s : List ℕ) (g : Shape) (a : Weights) (w table : List ℕ)
   pub job : Job
   pub ready : Ready s g a w table lent job
   pub there : i < netCount job
-  pub pins : getD table (entriesColumn i) 0 ≡ length (netOf job (suc i) .pins)
+  pub pins : getD table (tilesColumn i) 0 ≡ differentTiles (netOf job (suc i) .pins)
 
 -- the rows of the nets, and their scores
 pub record Scored (s : List ℕ) (j : Job) (table : List ℕ) : Type 0 where

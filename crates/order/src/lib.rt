@@ -6,12 +6,12 @@ ghost use Prim.Native.Nat.{suc, _+_, _^_, _<_, _≤_};
 ghost use lib.ListN.{length, getD};
 ghost use Rattle.layout.specs.Areas.{tilesAt};
 ghost use Rattle.layout.specs.Shapes.{Shaped};
-ghost use Rattle.layout.specs.Table.{entriesColumn};
+ghost use Rattle.layout.specs.Table.{tilesColumn};
 ghost use Rattle.model.specs.Job.{Net, Job, netCount, netOf};
 ghost use Rattle.model.specs.Read.{Lent, edgeInside};
 ghost use Rattle.model.specs.Score as scores;
 ghost use Rattle.net.specs.Left.{EdgesThere};
-ghost use Rattle.net.specs.Table.{EdgesAt, PinCounts};
+ghost use Rattle.net.specs.Table.{EdgesAt, PinTiles};
 ghost use Rattle.scan.specs.Pins.{triple};
 ghost use Rattle.flat.specs.FlatPlan.{FlatDemands, FlatCapacities};
 ghost use Rattle.ways.specs.Entry.{edgeOf};
@@ -158,11 +158,11 @@ fn net_score(s: &[u8], w: &[u32], g: Shape, a: Weights, table: &[u32], i: usize)
     requires { ⌜ Shaped g ⌝ }
     requires { ⌜ tilesAt g ≤ length (now w) ⌝ }
     requires { ⌜ SomeNet (now s) g a (now w) (now table) i ⌝ }
-    ensures { λ r. ⌜ ((lent : Lent) (j : Job) → Ready (now (s .entry)) g a (now (w .entry)) (now (table .entry)) lent j → i < netCount j → getD (now (table .entry)) (entriesColumn i) 0 ≡ length (netOf j (suc i) .pins) → r ≡ scores.score j (netOf j (suc i))) ⌝ }
+    ensures { λ r. ⌜ ((lent : Lent) (j : Job) → Ready (now (s .entry)) g a (now (w .entry)) (now (table .entry)) lent j → i < netCount j → getD (now (table .entry)) (tilesColumn i) 0 ≡ scores.differentTiles (netOf j (suc i) .pins) → r ≡ scores.score j (netOf j (suc i))) ⌝ }
 {
     let at = layout::index(table[layout::edges_column(i)]);
     let edges = wide(table[layout::count_column(i)]);
-    let pins = wide(table[layout::entries_column(i)]);
+    let pins = wide(table[layout::tiles_column(i)]);
     let x = weighed_density(s, at, w, g, a.gamma);
     score(a, edges, pins, x)
 }
@@ -172,7 +172,7 @@ pub fn score_nets(s: &[u8], w: &[u32], g: Shape, a: Weights, table: &mut [u32], 
     requires { ⌜ Shaped g ⌝ }
     requires { ⌜ tilesAt g ≤ length (now w) ⌝ }
     requires { ⌜ SomeJob (now s) g a (now w) (now table) n ⌝ }
-    ensures { λ _. ⌜ ((lent : Lent) (j : Job) → Ready (now (s .entry)) g a (now (w .entry)) (now (table .entry)) lent j → PinCounts j (now (table .entry)) → n ≡ netCount j → Scored (now (s .entry)) j (now (table .exit))) ⌝ }
+    ensures { λ _. ⌜ ((lent : Lent) (j : Job) → Ready (now (s .entry)) g a (now (w .entry)) (now (table .entry)) lent j → PinTiles j (now (table .entry)) → n ≡ netCount j → Scored (now (s .entry)) j (now (table .exit))) ⌝ }
 {
     for i in 0..n {
         let v = net_score(s, w, g, a, table, i);

@@ -28,8 +28,8 @@ module _ (n : ℕ) (a : List ℕ) (t l : ℕ) (v : Seen) where
   -- what is seen of a mark that was there, or not, in a tile that was empty, or not
   seen : Bool → Bool → Seen
   seen m z =
-      cond m (record { entries = v .entries + 1; tiles = v .tiles; inside = v .inside; twice = true })
-      (record { entries = v .entries + 1; tiles = v .tiles + bit z; inside = v .inside; twice = v .twice })
+      cond m (record { tiles = v .tiles; inside = v .inside; twice = true })
+      (record { tiles = v .tiles + bit z; inside = v .inside; twice = v .twice })
 
   wrong : {A : Type 0} → _≡_ {A = Put} Twice Fresh → A
   wrong e = absurd (let y : _≡_ {A = ℕ} 0 1 = cc in omega arith)
@@ -40,40 +40,40 @@ module _ (n : ℕ) (a : List ℕ) (t l : ℕ) (v : Seen) where
   wrong-3 : {A : Type 0} → _≡_ {A = Put} Fresh Known → A
   wrong-3 e = absurd (let y : _≡_ {A = ℕ} 0 1 = cc in omega arith)
 
-  pub seen-twice : Twice ≡ putOf n a t (l - 1) → record { entries = v .entries + 1; tiles = v .tiles; inside = v .inside; twice = true } ≡ markedSeen n a t l v
+  pub seen-twice : Twice ≡ putOf n a t (l - 1) → record { tiles = v .tiles; inside = v .inside; twice = true } ≡ markedSeen n a t l v
   unfolding putOf markedSeen seen
   seen-twice p = go (marked n a t (l - 1)) (eqb (bitsAt n a t) 0) p
     where
-      go : (m z : Bool) → Twice ≡ cond m Twice (cond z Fresh Known) → record { entries = v .entries + 1; tiles = v .tiles; inside = v .inside; twice = true } ≡ seen m z
+      go : (m z : Bool) → Twice ≡ cond m Twice (cond z Fresh Known) → record { tiles = v .tiles; inside = v .inside; twice = true } ≡ seen m z
       go true z q = refl
       go false true q = wrong q
       go false false q = wrong-2 q
 
   pub seen-fresh : Fresh ≡ putOf n a t (l - 1)
-      → record { entries = v .entries + 1; tiles = v .tiles + 1; inside = v .inside; twice = v .twice } ≡ markedSeen n a t l v
+      → record { tiles = v .tiles + 1; inside = v .inside; twice = v .twice } ≡ markedSeen n a t l v
   unfolding putOf markedSeen seen
   seen-fresh p = go (marked n a t (l - 1)) (eqb (bitsAt n a t) 0) p
     where
-      go : (m z : Bool) → Fresh ≡ cond m Twice (cond z Fresh Known) → record { entries = v .entries + 1; tiles = v .tiles + 1; inside = v .inside; twice = v .twice } ≡ seen m z
+      go : (m z : Bool) → Fresh ≡ cond m Twice (cond z Fresh Known) → record { tiles = v .tiles + 1; inside = v .inside; twice = v .twice } ≡ seen m z
       go true z q = wrong (sym q)
       go false true q = refl
       go false false q = wrong-3 q
 
   pub seen-known : Known ≡ putOf n a t (l - 1)
-      → record { entries = v .entries + 1; tiles = v .tiles; inside = v .inside; twice = v .twice } ≡ markedSeen n a t l v
+      → record { tiles = v .tiles; inside = v .inside; twice = v .twice } ≡ markedSeen n a t l v
   unfolding putOf markedSeen seen
   seen-known p = go (marked n a t (l - 1)) (eqb (bitsAt n a t) 0) p
     where
-      go : (m z : Bool) → Known ≡ cond m Twice (cond z Fresh Known) → record { entries = v .entries + 1; tiles = v .tiles; inside = v .inside; twice = v .twice } ≡ seen m z
+      go : (m z : Bool) → Known ≡ cond m Twice (cond z Fresh Known) → record { tiles = v .tiles; inside = v .inside; twice = v .twice } ≡ seen m z
       go true z q = wrong-2 (sym q)
       go false true q = wrong-3 (sym q)
-      go false false q = ap (λ (k : ℕ). record { entries = v .entries + 1; tiles = k; inside = v .inside; twice = v .twice }) (sym (add-zero (v .tiles)))
+      go false false q = ap (λ (k : ℕ). record { tiles = k; inside = v .inside; twice = v .twice }) (sym (add-zero (v .tiles)))
 
 -- ---- inside the grid, or not
 
 module _ (g : Shape) (n : ℕ) (a : List ℕ) (v : Seen) (x y l : ℕ) where
   pub put-outside : pinInside (g .w) (g .h) (g .k) (triple x y l) ≡ false
-      → (record { entries = v .entries + 1; tiles = v .tiles; inside = false; twice = v .twice } ≡ seenAfter g n a v (triple x y l)) × (a ≡ workAfter g n a (triple x y l))
+      → (record { tiles = v .tiles; inside = false; twice = v .twice } ≡ seenAfter g n a v (triple x y l)) × (a ≡ workAfter g n a (triple x y l))
   unfolding seenAfter workAfter
   put-outside e = (rw e, rw e)
 
@@ -82,7 +82,7 @@ module _ (g : Shape) (n : ℕ) (a : List ℕ) (v : Seen) (x y l : ℕ) where
   unfolding seenAfter workAfter
   put-inside e here h r b p q = (rw (e, ← h) p, rw (e, ← h) q)
 
--- ---- a step keeps the length and the counts
+-- ---- a step keeps the length, and adds at most one tile
 
 pub work-long : (g : Shape) (n : ℕ) (a : List ℕ) (t : Triple) → length (workAfter g n a t) ≡ length a
 unfolding workAfter marksAfter
@@ -93,23 +93,22 @@ work-long g n a t = go (pinInside (g .w) (g .h) (g .k) t) (marked n a (pinAt (g 
     go true false = mark-long n a (pinAt (g .w) t .tile) (t .third - 1)
     go false q = refl
 
-pub seen-counts : (g : Shape) (n : ℕ) (a : List ℕ) (v : Seen) (t : Triple) → v .tiles ≤ v .entries
-    → (seenAfter g n a v t .entries ≡ v .entries + 1) × (seenAfter g n a v t .tiles ≤ seenAfter g n a v t .entries)
+pub seen-counts : (g : Shape) (n : ℕ) (a : List ℕ) (v : Seen) (t : Triple) → seenAfter g n a v t .tiles ≤ v .tiles + 1
 unfolding seenAfter markedSeen
-seen-counts g n a v t h = go (pinInside (g .w) (g .h) (g .k) t) (marked n a (pinAt (g .w) t .tile) (t .third - 1)) (eqb (bitsAt n a (pinAt (g .w) t .tile)) 0)
+seen-counts g n a v t = go (pinInside (g .w) (g .h) (g .k) t) (marked n a (pinAt (g .w) t .tile) (t .third - 1)) (eqb (bitsAt n a (pinAt (g .w) t .tile)) 0)
   where
     after : Bool → Bool → Bool → Seen
     after p q z =
         cond p
-        (cond q (record { entries = v .entries + 1; tiles = v .tiles; inside = v .inside; twice = true })
-        (record { entries = v .entries + 1; tiles = v .tiles + bit z; inside = v .inside; twice = v .twice }))
-        (record { entries = v .entries + 1; tiles = v .tiles; inside = false; twice = v .twice })
+        (cond q (record { tiles = v .tiles; inside = v .inside; twice = true })
+        (record { tiles = v .tiles + bit z; inside = v .inside; twice = v .twice }))
+        (record { tiles = v .tiles; inside = false; twice = v .twice })
 
-    go : (p q z : Bool) → (after p q z .entries ≡ v .entries + 1) × (after p q z .tiles ≤ after p q z .entries)
-    go true true z = (refl, omega arith)
-    go true false true = (refl, omega arith)
-    go true false false = (refl, omega arith)
-    go false q z = (refl, omega arith)
+    go : (p q z : Bool) → after p q z .tiles ≤ v .tiles + 1
+    go true true z = omega arith
+    go true false true = omega arith
+    go true false false = omega arith
+    go false q z = omega arith
 
 -- ---- the verdict
 
@@ -122,6 +121,6 @@ module _ (v : Seen) (from : ℕ) (c : Cursor) where
   unfolding verdictOf
   verdict-twice e h = rw (e, h)
 
-  pub verdict-fine : v .inside ≡ true → v .twice ≡ false → Line (record { from = from; entries = v .entries; tiles = v .tiles }) c ≡ verdictOf v from c
+  pub verdict-fine : v .inside ≡ true → v .twice ≡ false → Line (record { from = from; tiles = v .tiles }) c ≡ verdictOf v from c
   unfolding verdictOf
   verdict-fine e h = rw (e, h)

@@ -52,22 +52,21 @@ module _ (g : Shape) (shaped : Shaped g) (n : ℕ) (a : List ℕ) (older : Older
       pins : List Pin
       pins = map (pinAt (g .w)) (c .0)
 
-      leaves : ℕ → ℕ → Result Marked
-      leaves e t = found (record { marks = markPins n a pins; entries = e; tiles = t }) (record { line = l; rest = c .1 })
+      leaves : ℕ → Result Marked
+      leaves t = found (record { marks = markPins n a pins; tiles = t }) (record { line = l; rest = c .1 })
 
-      zeros : leaves (0 + length pins) (0 + newTiles n a pins) ≡ leaves (length pins) (newTiles n a pins)
+      zeros : leaves (0 + newTiles n a pins) ≡ leaves (newTiles n a pins)
       zeros =
-          let x : 0 + length pins ≡ length pins = omega arith in
           let y : 0 + newTiles n a pins ≡ newTiles n a pins = omega arith in
-          λ i. leaves (x i) (y i)
+          ap leaves y
 
-      end : (q : Bool) → cond q (refused 5 l) (leaves (0 + length pins) (0 + newTiles n a pins))
+      end : (q : Bool) → cond q (refused 5 l) (leaves (0 + newTiles n a pins))
           ≡ mapped (pinsMarked n a) (cond q (refused 5 l) (found pins (record { line = l; rest = c .1 })))
       end true = refl
       end false = zeros
 
       go : (p : Bool) → all (pinInside (g .w) (g .h) (g .k)) (c .0) ≡ p
-          → cond (true && p) (cond (false || markedTwice n a pins) (refused 5 l) (leaves (0 + length pins) (0 + newTiles n a pins))) (refused 3 l)
+          → cond (true && p) (cond (false || markedTwice n a pins) (refused 5 l) (leaves (0 + newTiles n a pins))) (refused 3 l)
           ≡ mapped (pinsMarked n a) (cond p (cond (twice samePin pins) (refused 5 l) (found pins (record { line = l; rest = c .1 }))) (refused 3 l))
       go false e = refl
       go true e = rw (first-twice n a older pins (all-inside (c .0) e)) (end (twice samePin pins))

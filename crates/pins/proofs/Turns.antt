@@ -3,7 +3,7 @@
 use mathlib.Core.Bool.{Bool, true, false, _&&_, _||_, cond}
 use mathlib.Core.List.{List, [], _∷_, map}
 use mathlib.Core.Option.{none, some}
-use mathlib.Core.Path.{_≡_, refl, sym, ap, ap₂, _∙_}
+use mathlib.Core.Path.{_≡_, refl, sym, ap, _∙_}
 use Prim.Native.Nat.{ℕ, suc, _+_, _-_, _≤_, _<_}
 use native.Mathlib.Omega.{arith}
 use lib.Dec.{eqb}
@@ -26,8 +26,8 @@ use Rattle.pins.specs.declared.PinsRead.the-variants.{Line, Refused}
 use Rattle.pins.specs.declared.Seen.{Seen}
 
 -- a fine line
-abbrev fine : ℕ → List ℕ → ℕ → ℕ → List ℕ → Result Marked
-fine l b e t r = found (record { marks = b; entries = e; tiles = t }) (record { line = l; rest = r })
+abbrev fine : ℕ → List ℕ → ℕ → List ℕ → Result Marked
+fine l b t r = found (record { marks = b; tiles = t }) (record { line = l; rest = r })
 
 -- the tests of a line, in their order
 abbrev tested : ℕ → Bool → Bool → Result Marked → Result Marked
@@ -50,20 +50,18 @@ module _ (g : Shape) (n l : ℕ) (v : Seen) (a : List ℕ) (t : Triple) where
       twice true r = refl
       twice false r = refl
 
-      found-more : (p q z : Bool) (e t m k : ℕ) (b r : List ℕ)
-          → tested l p q (fine l b (e + suc m) (t + (bit z + k)) r) ≡ tested l p q (fine l b (e + 1 + m) (t + bit z + k) r)
-      found-more p q z e t m k b r =
-          let x : e + suc m ≡ e + 1 + m = omega arith in
+      found-more : (p q z : Bool) (t k : ℕ) (b r : List ℕ) → tested l p q (fine l b (t + (bit z + k)) r) ≡ tested l p q (fine l b (t + bit z + k) r)
+      found-more p q z t k b r =
           let y : t + (bit z + k) ≡ t + bit z + k = omega arith in
-          ap₂ (λ (c d : ℕ). tested l p q (fine l b c d r)) x y
+          ap (λ (d : ℕ). tested l p q (fine l b d r)) y
 
       go : (p q : Bool) → pinInside (g .w) (g .h) (g .k) t ≡ p → marked n a (pinAt (g .w) t .tile) (t .third - 1) ≡ q
           → finish g n l v a (some (t ∷ c .0, c .1))
           ≡ finish g n l
           (cond p
-          (cond q (record { entries = v .entries + 1; tiles = v .tiles; inside = v .inside; twice = true })
-          (record { entries = v .entries + 1; tiles = v .tiles + bit (eqb (bitsAt n a (pinAt (g .w) t .tile)) 0); inside = v .inside; twice = v .twice }))
-          (record { entries = v .entries + 1; tiles = v .tiles; inside = false; twice = v .twice }))
+          (cond q (record { tiles = v .tiles; inside = v .inside; twice = true })
+          (record { tiles = v .tiles + bit (eqb (bitsAt n a (pinAt (g .w) t .tile)) 0); inside = v .inside; twice = v .twice }))
+          (record { tiles = v .tiles; inside = false; twice = v .twice }))
           (cond p (cond q a (mark n a (pinAt (g .w) t .tile) (t .third - 1))) a)
           (some c)
       go false q e h = rw e (outside (v .inside) _)
@@ -71,7 +69,7 @@ module _ (g : Shape) (n l : ℕ) (v : Seen) (a : List ℕ) (t : Triple) where
       go true false e h =
           rw (e, h)
           (found-more (v .inside && all (pinInside (g .w) (g .h) (g .k)) (c .0)) (v .twice || markedTwice n (markPin n a (pinAt (g .w) t)) pins)
-          (eqb (bitsAt n a (pinAt (g .w) t .tile)) 0) (v .entries) (v .tiles) (length pins) (newTiles n (markPin n a (pinAt (g .w) t)) pins)
+          (eqb (bitsAt n a (pinAt (g .w) t .tile)) 0) (v .tiles) (newTiles n (markPin n a (pinAt (g .w) t)) pins)
           (markPins n (markPin n a (pinAt (g .w) t)) pins) (c .1))
 
   pub finish-step : (r : Lined) → finish g n l v a (consTo (some t) r) ≡ finish g n l (seenAfter g n a v t) (workAfter g n a t) r
@@ -85,15 +83,14 @@ finish-end g n v a s from c = go (v .inside) (v .twice)
     l : ℕ
     l = c .line
 
-    zeros : fine l a (v .entries + 0) (v .tiles + 0) (drop (c .at) s) ≡ fine l a (v .entries) (v .tiles) (drop (c .at) s)
+    zeros : fine l a (v .tiles + 0) (drop (c .at) s) ≡ fine l a (v .tiles) (drop (c .at) s)
     zeros =
-        let x : v .entries + 0 ≡ v .entries = omega arith in
         let y : v .tiles + 0 ≡ v .tiles = omega arith in
-        ap₂ (λ (e d : ℕ). fine l a e d (drop (c .at) s)) x y
+        ap (λ (d : ℕ). fine l a d (drop (c .at) s)) y
 
     go : (p q : Bool)
-        → tested l (p && true) (q || false) (fine l a (v .entries + 0) (v .tiles + 0) (drop (c .at) s))
-        ≡ pinsTold s a (cond p (cond q (Refused (OnLine PinTwice l)) (Line (record { from = from; entries = v .entries; tiles = v .tiles }) c)) (Refused (OnLine Range l)))
+        → tested l (p && true) (q || false) (fine l a (v .tiles + 0) (drop (c .at) s))
+        ≡ pinsTold s a (cond p (cond q (Refused (OnLine PinTwice l)) (Line (record { from = from; tiles = v .tiles }) c)) (Refused (OnLine Range l)))
     go true true = refl
     go true false = zeros
     go false q = refl
@@ -128,7 +125,7 @@ last-place s i x y z next e v from l r h = rw h (go (v .inside) (v .twice))
   where
     go : (p q : Bool)
         → pinsIn (length s) from l
-        (cond p (cond q (Refused (OnLine PinTwice l)) (Line (record { from = from; entries = v .entries; tiles = v .tiles }) (record { at = next; line = l }))) (Refused (OnLine Range l)))
+        (cond p (cond q (Refused (OnLine PinTwice l)) (Line (record { from = from; tiles = v .tiles }) (record { at = next; line = l }))) (Refused (OnLine Range l)))
     go true true = tt
     go true false = (refl, record { place = pin-is s i (Last x y z next) e .1; lines = refl })
     go false q = tt

@@ -1,20 +1,22 @@
 -- What the marks of a list of pins say.
 -- Assumes nothing.
-use mathlib.Core.Bool.{Bool, true, false, _&&_, _||_, cond}
-use mathlib.Core.List.{List, [], _∷_}
-use mathlib.Core.Path.{_≡_, refl, ap, _∙_}
-use Prim.Native.Nat.{ℕ, _-_, _≤_, _<_}
+use mathlib.Core.Bool.{Bool, true, false, not, _&&_, _||_, cond}
+use mathlib.Core.List.{List, [], _∷_, map}
+use mathlib.Core.Path.{_≡_, refl, sym, ap, _∙_}
+use Prim.Native.Nat.{ℕ, _+_, _-_, _≤_, _<_}
 use native.Mathlib.Decide.{ℕ-discrete}
 use native.Mathlib.Omega.{arith}
 use lib.Dec.{eqb}
 use lib.ListN.{length}
 use borrow.Author.Tests.{eq-eqb, ne-eqb}
-use Rattle.marks.specs.Marks.{marked, Older, mark-has, mark-fits, mark-long, none-marked}
+use Rattle.marks.specs.Marks.{bitsAt, marked, touched, Older, mark-has, mark-touches, mark-fits, mark-long, none-yet, none-marked}
 use Rattle.marks.specs.Words.{Fits}
 use Rattle.model.specs.Job.{Pin}
-use Rattle.model.specs.Lists.{any, twice}
+use Rattle.model.specs.Lists.{sum, bit, any, twice, different}
 use Rattle.model.specs.Read.{samePin}
-use Rattle.pins.specs.Pins.{pinMarked, markPin, markPins, markedTwice}
+use Rattle.model.specs.Score.{differentTiles}
+use Rattle.theory.specs.links.Stacked.{different-step, different-free}
+use Rattle.pins.specs.Pins.{pinMarked, markPin, markPins, markedTwice, newTiles}
 
 -- pins that a list of words has room for, on layers 1 to 8
 abbrev pub Inside : ℕ → Pin → Type 0
@@ -126,3 +128,39 @@ module _ (n : ℕ) where
   pins-fit a (p ∷ ps) k e h =
       let f = first-new a p ps e in
       pins-fit (markPin n a p) ps (still-inside a p ps (k .1)) (f .1) (mark-fits n a (p .tile) (p .layer - 1) (k .0 .0) (omega (arith, k .0)) (f .0) h)
+
+  -- ---- in how many tiles they are
+
+  -- 1 where a tile has no mark yet
+  abbrev free : List ℕ → ℕ → ℕ
+  free a t = bit (eqb (bitsAt n a t) 0)
+
+  untouched : (b c : Bool) → not b ≡ c → bit b ≡ bit (not c)
+  untouched true c h = rw (← h)
+  untouched false c h = rw (← h)
+
+  untouched-as : (b c : Bool) → not b ≡ not c → bit b ≡ bit c
+  untouched-as b true h = untouched b false h
+  untouched-as b false h = untouched b true h
+
+  -- going along the pins, those are the first in their tile whose tile was free
+  pub new-tiles : (a : List ℕ) (ps : List Pin) → AllInside (length a) ps → markedTwice n a ps ≡ false → newTiles n a ps ≡ sum (free a) (different (map (λ p. p .tile) ps))
+  new-tiles a [] k e = refl
+  new-tiles a (p ∷ ps) k e =
+      ap (λ (m : ℕ). free a (p .tile) + m) (new-tiles (markPin n a p) ps (still-inside a p ps (k .1)) (first-new a p ps e .1))
+      ∙ different-step (free a) (free (markPin n a p)) (p .tile) met others (map (λ q. q .tile) ps)
+    where
+      touches : (u : ℕ) → touched n (markPin n a p) u ≡ (eqb (p .tile) u || touched n a u)
+      touches = mark-touches n a (p .tile) (p .layer - 1) (k .0 .0) (omega (arith, k .0)) (first-new a p ps e .0)
+
+      met : free (markPin n a p) (p .tile) ≡ 0
+      met = untouched (eqb (bitsAt n (markPin n a p) (p .tile)) 0) true (touches (p .tile) ∙ ap (λ (b : Bool). b || touched n a (p .tile)) (eq-eqb (p .tile) (p .tile) refl))
+
+      others : (u : ℕ) → (u ≡ p .tile → ⊥) → free (markPin n a p) u ≡ free a u
+      others u h =
+          untouched-as (eqb (bitsAt n (markPin n a p) u) 0) (eqb (bitsAt n a u) 0)
+          (touches u ∙ ap (λ (b : Bool). b || touched n a u) (ne-eqb (p .tile) u (λ q. h (sym q))))
+
+  -- where every mark is an earlier net's, they are as many as the pins have different tiles
+  pub first-tiles : (a : List ℕ) → Older n a → (ps : List Pin) → AllInside (length a) ps → markedTwice n a ps ≡ false → newTiles n a ps ≡ differentTiles ps
+  first-tiles a o ps k e = new-tiles a ps k e ∙ different-free (free a) (λ u. ap bit (eq-eqb (bitsAt n a u) 0 (none-yet n a o u))) (different (map (λ p. p .tile) ps))

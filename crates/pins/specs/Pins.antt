@@ -45,38 +45,37 @@ abbrev pub newTiles : ℕ → List ℕ → List Pin → ℕ
 newTiles n a [] = 0
 newTiles n a (p ∷ ps) = bit (eqb (bitsAt n a (p .tile)) 0) + newTiles n (markPin n a p) ps
 
--- what a fine line leaves: the marks, the number of its pins, and the number of their tiles
+-- what a fine line leaves: the marks, and the number of its pins' tiles
 pub record Marked : Type 0 where
   pub marks : List ℕ
-  pub entries : ℕ
   pub tiles : ℕ
 
 abbrev pub pinsMarked : ℕ → List ℕ → List Pin → Marked
-pinsMarked n a ps = record { marks = markPins n a ps; entries = length ps; tiles = newTiles n a ps }
+pinsMarked n a ps = record { marks = markPins n a ps; tiles = newTiles n a ps }
 
 -- ---- one entry
 
 abbrev pub start : Seen
-start = record { entries = 0; tiles = 0; inside = true; twice = false }
+start = record { tiles = 0; inside = true; twice = false }
 
 -- a pin inside the grid, on layer l of tile t
 unfoldable pub markedSeen : ℕ → List ℕ → ℕ → ℕ → Seen → Seen
 markedSeen n a t l v =
     cond (marked n a t (l - 1))
-    (record { entries = v .entries + 1; tiles = v .tiles; inside = v .inside; twice = true })
-    (record { entries = v .entries + 1; tiles = v .tiles + bit (eqb (bitsAt n a t) 0); inside = v .inside; twice = v .twice })
+    (record { tiles = v .tiles; inside = v .inside; twice = true })
+    (record { tiles = v .tiles + bit (eqb (bitsAt n a t) 0); inside = v .inside; twice = v .twice })
 
 unfoldable pub seenAfter : Shape → ℕ → List ℕ → Seen → Triple → Seen
 seenAfter g n a v t =
     cond (pinInside (g .w) (g .h) (g .k) t) (markedSeen n a (pinAt (g .w) t .tile) (t .third) v)
-    (record { entries = v .entries + 1; tiles = v .tiles; inside = false; twice = v .twice })
+    (record { tiles = v .tiles; inside = false; twice = v .twice })
 
 unfoldable pub workAfter : Shape → ℕ → List ℕ → Triple → List ℕ
 workAfter g n a t = cond (pinInside (g .w) (g .h) (g .k) t) (marksAfter n a (pinAt (g .w) t .tile) (t .third - 1)) a
 
 unfoldable pub verdictOf : Seen → ℕ → Cursor → PinsRead
 verdictOf v from c =
-    cond (v .inside) (cond (v .twice) (Refused (OnLine PinTwice (c .line))) (Line (record { from = from; entries = v .entries; tiles = v .tiles }) c))
+    cond (v .inside) (cond (v .twice) (Refused (OnLine PinTwice (c .line))) (Line (record { from = from; tiles = v .tiles }) c))
     (Refused (OnLine Range (c .line)))
 
 -- ---- the line
@@ -89,7 +88,7 @@ pinsIn size from line (Line p c) = (p .from ≡ from) × After size line c
 -- the answer in the definitions' words: a refusal, or what the line leaves and the next place
 abbrev pub pinsTold : List ℕ → List ℕ → PinsRead → Result Marked
 pinsTold s a (Refused r) = refusedBy r
-pinsTold s a (Line p c) = found (record { marks = a; entries = p .entries; tiles = p .tiles }) (placeOf s c)
+pinsTold s a (Line p c) = found (record { marks = a; tiles = p .tiles }) (placeOf s c)
 
 -- the entries from here on, after what was seen and marked so far
 abbrev pub finish : Shape → ℕ → ℕ → Seen → List ℕ → Lined → Result Marked
@@ -98,5 +97,5 @@ finish g n l v a (some c) =
     let pins = map (pinAt (g .w)) (c .0) in
     cond (v .inside && all (pinInside (g .w) (g .h) (g .k)) (c .0))
     (cond (v .twice || markedTwice n a pins) (refused 5 l)
-    (found (record { marks = markPins n a pins; entries = v .entries + length pins; tiles = v .tiles + newTiles n a pins }) (record { line = l; rest = c .1 })))
+    (found (record { marks = markPins n a pins; tiles = v .tiles + newTiles n a pins }) (record { line = l; rest = c .1 })))
     (refused 3 l)

@@ -18,18 +18,16 @@ ghost use Rattle.lines.specs.Told.{mapped};
 ghost use Rattle.text.specs.Refusals.{placeOf};
 ghost use Rattle.pins.specs.Pins.{markedSeen, seenAfter, workAfter, verdictOf, pinsIn, start, pinsTold, finish, pinsMarked};
 
-// What the entries of a line have shown so far: how many they are, in how many tiles, all inside the grid, one of them twice.
+// What the entries of a line have shown so far: in how many tiles they are, all inside the grid, one of them twice.
 pub struct Seen {
-    pub entries: usize,
     pub tiles: usize,
     pub inside: bool,
     pub twice: bool,
 }
 
-// The entries of a `pins` line: where they stand, how many they are, and in how many tiles.
+// The entries of a `pins` line: where they stand, and in how many tiles they are.
 pub struct Pins {
     pub from: usize,
-    pub entries: usize,
     pub tiles: usize,
 }
 
@@ -57,43 +55,34 @@ fn inside(g: Shape, x: usize, y: usize, l: usize) -> bool
 
 // One more pin inside the grid, on layer l of the tile `here`.
 fn mark_pin(a: &mut [u32], stamp: u32, here: usize, l: usize, v: Seen) -> Seen
-    requires { ⌜ (here < length (now a)) × (1 ≤ l) × (l ≤ 8) × (stamp ≤ mostStamp) × (v .entries < 4294967296) × (v .tiles ≤ v .entries) ⌝ }
+    requires { ⌜ (here < length (now a)) × (1 ≤ l) × (l ≤ 8) × (stamp ≤ mostStamp) × (v .tiles < 4294967296) ⌝ }
     ensures { λ r. ⌜ r ≡ markedSeen stamp (now (a .entry)) here l v ⌝ }
     ensures { λ _. ⌜ now (a .exit) ≡ marksAfter stamp (now (a .entry)) here (l - 1) ⌝ }
 {
-    let entries = v.entries + 1;
     match marks::set_mark(a, stamp, here, (l - 1) as u32) {
         Put::Twice => Seen {
-            entries,
             tiles: v.tiles,
             inside: v.inside,
             twice: true,
         },
         Put::Fresh => Seen {
-            entries,
             tiles: v.tiles + 1,
             inside: v.inside,
             twice: v.twice,
         },
-        Put::Known => Seen {
-            entries,
-            tiles: v.tiles,
-            inside: v.inside,
-            twice: v.twice,
-        },
+        Put::Known => v,
     }
 }
 
 // One more entry.
 fn put_pin(a: &mut [u32], g: Shape, stamp: u32, v: Seen, e: Item) -> Seen
     requires { ⌜ Shaped g ⌝ }
-    requires { ⌜ (g .t ≤ length (now a)) × (stamp ≤ mostStamp) × (v .entries < 4294967296) × (v .tiles ≤ v .entries) ⌝ }
+    requires { ⌜ (g .t ≤ length (now a)) × (stamp ≤ mostStamp) × (v .tiles < 4294967296) ⌝ }
     ensures { λ r. ⌜ r ≡ seenAfter g stamp (now (a .entry)) v (triple (e .x) (e .y) (e .z)) ⌝ }
     ensures { λ _. ⌜ now (a .exit) ≡ workAfter g stamp (now (a .entry)) (triple (e .x) (e .y) (e .z)) ⌝ }
 {
     if !inside(g, e.x, e.y, e.z) {
         return Seen {
-            entries: v.entries + 1,
             tiles: v.tiles,
             inside: false,
             twice: v.twice,
@@ -115,7 +104,6 @@ fn verdict(v: Seen, from: usize, c: Cursor) -> PinsRead
     }
     let p = Pins {
         from,
-        entries: v.entries,
         tiles: v.tiles,
     };
     PinsRead::Line(p, c)
@@ -131,7 +119,6 @@ fn entries(s: &[u8], c: Cursor, a: &mut [u32], g: Shape, stamp: u32) -> PinsRead
 {
     let mut i = c.at;
     let mut v = Seen {
-        entries: 0,
         tiles: 0,
         inside: true,
         twice: false,

@@ -18,7 +18,7 @@ use Rattle.model.specs.Overflow.{limit, ceilDiv}
 use Rattle.model.specs.Plan.{plan}
 use Rattle.model.specs.Read.{Lent, printNeed}
 use Rattle.net.specs.SoFar.{Capacities}
-use Rattle.net.specs.Table.{PinCounts}
+use Rattle.net.specs.Table.{PinTiles}
 use Rattle.order.specs.Ready.{Ready, SomeJob, Scored, ready-checked}
 use Rattle.order.specs.declared.Weights.{Weights}
 use Rattle.placing.specs.Turns.{Start}
@@ -69,7 +69,7 @@ module _ (s : List ℕ) (lent : Lent) (w table : List ℕ) (h : Head) (k : JobFo
         ready-checked s (h .shape) a w w₁ table lent (k .job) job-accepted (k .checked) out flat-here (x ∙ k .alpha) (y ∙ k .beta) (z ∙ k .gamma)
 
     pub some-job : (a : Weights) → a .alpha ≡ h .alpha → a .beta ≡ h .beta → a .gamma ≡ h .gamma → SomeJob s (h .shape) a w₁ table (h .nets)
-    some-job a x y z = record { lent = lent; job = k .job; ready = ready a x y z; pins = k .checked .pin-counts; count = k .nets }
+    some-job a x y z = record { lent = lent; job = k .job; ready = ready a x y z; pins = k .checked .pin-tiles; count = k .nets }
 
     tiles-same : tilesOf (h .shape) w₁ ≡ tilesOf (h .shape) w
     tiles-same = part-outside (flatAt (h .shape)) (h .shape .e) w w₁ out (tilesAt (h .shape)) (h .shape .t) (inr (omega arith))
@@ -90,13 +90,13 @@ module _ (s : List ℕ) (lent : Lent) (w table : List ℕ) (h : Head) (k : JobFo
 
     -- and its nets are scored
     pub opened : (a : Weights) → a .alpha ≡ h .alpha → a .beta ≡ h .beta → a .gamma ≡ h .gamma → (table′ : List ℕ)
-        → ((l : Lent) (j : Job) → Ready s (h .shape) a w₁ table l j → PinCounts j table → h .nets ≡ netCount j → Scored s j table′) → OpenFound s lent w₁ table′ h
+        → ((l : Lent) (j : Job) → Ready s (h .shape) a w₁ table l j → PinTiles j table → h .nets ≡ netCount j → Scored s j table′) → OpenFound s lent w₁ table′ h
     opened a x y z table′ scored = record {
       job = k .job;
       place = k .place;
       is = k .is;
       given = given;
-      scored = scored lent (k .job) (ready a x y z) (k .checked .pin-counts) (k .nets);
+      scored = scored lent (k .job) (ready a x y z) (k .checked .pin-tiles) (k .nets);
     }
 
 -- ---- a job whose order stands

@@ -24,7 +24,7 @@ use Rattle.model.specs.Job.{Net, Job, netCount}
 use Rattle.model.specs.Limits.{mostText}
 use Rattle.model.specs.Read.{Place, found, next, Lent, workingNeed, read}
 use Rattle.net.specs.SoFar.{Capacities}
-use Rattle.net.specs.Table.{Row, PinCounts}
+use Rattle.net.specs.Table.{Row, PinTiles}
 use Rattle.text.specs.Refusals.{placeOf}
 use Rattle.text.specs.declared.Cursor.{Cursor}
 use Rattle.text.specs.declared.Refusal.{Refusal}
@@ -140,10 +140,10 @@ module _ (s : List ℕ) (order : ℕ) (w : List ℕ) (w₁ : List ℕ) (r : Head
               let k = subst (λ (m : ℕ). RowAt s (h .shape .w) (h .shape .h) (h .shape .k) table i (offset (edgesOf ns) i) (getD ns m noNet)) z (so .rows i b) in
               record { pins = k .pins; edges = k .edges; edge-count = k .edge-count; first = k .first-is }
 
-          pin-counts-are : PinCounts (jobOf h v (found-rest .nets-read)) table
-          pin-counts-are i b =
+          pin-tiles-are : PinTiles (jobOf h v (found-rest .nets-read)) table
+          pin-tiles-are i b =
               let z : i ≡ suc i - 1 = omega arith in
-              subst (λ (m : ℕ). RowAt s (h .shape .w) (h .shape .h) (h .shape .k) table i (offset (edgesOf ns) i) (getD ns m noNet)) z (so .rows i b) .pin-count
+              subst (λ (m : ℕ). RowAt s (h .shape .w) (h .shape .h) (h .shape .k) table i (offset (edgesOf ns) i) (getD ns m noNet)) z (so .rows i b) .pin-tiles
 
           pub job-found : JobFound s (lentBy (length w) order answer print) w₂ table h
           job-found = record {
@@ -159,7 +159,7 @@ module _ (s : List ℕ) (order : ℕ) (w : List ℕ) (w₁ : List ℕ) (r : Head
               demand = so .demands;
               marks = so .marks;
               rows = record { long = so .table-long; rows = row-is };
-              pin-counts = pin-counts-are;
+              pin-tiles = pin-tiles-are;
             };
             alpha = refl;
             beta = refl;

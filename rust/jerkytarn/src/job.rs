@@ -4,6 +4,7 @@
 //! What a line is, its key, what comes after it and how it is read each have one place: [`Kind`]'s functions and
 //! [`Job::take`]. An optional line is a kind more, with a look at the next line in [`Kind::next`].
 
+use std::collections::BTreeSet;
 use std::ops::RangeInclusive;
 
 /// The way that an edge leaves the tile it is named after.
@@ -113,6 +114,13 @@ pub struct Pin {
 pub struct Net {
     pub pins: Vec<Pin>,
     pub edges: Vec<usize>,
+}
+
+impl Net {
+    /// In how many different tiles its pins are: pins on several layers of a tile count once in the score.
+    pub fn pin_tiles(&self) -> usize {
+        self.pins.iter().map(|pin| (pin.tile.x, pin.tile.y)).collect::<BTreeSet<_>>().len()
+    }
 }
 
 /// A job, as far as its lines were read.

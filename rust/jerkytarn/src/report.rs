@@ -22,6 +22,8 @@ pub struct Report {
     pub layers: usize,
     pub nets: usize,
     pub pins: usize,
+    /// The different tiles of each net's pins, of all nets together.
+    pub pin_tiles: usize,
     /// Entries on all `edges` lines.
     pub entries: usize,
     pub flat_overflow: Totals,
@@ -98,6 +100,8 @@ pub struct Net {
     pub vias: usize,
     pub edges: usize,
     pub pins: usize,
+    /// In how many different tiles these are: what the score counts.
+    pub pin_tiles: usize,
     pub score: u64,
     /// Its place in the placing order, from 1.
     pub turn: usize,
@@ -116,6 +120,7 @@ impl Report {
             layers: job.layers,
             nets: job.nets.len(),
             pins: job.nets.iter().map(|net| net.pins.len()).sum(),
+            pin_tiles: job.nets.iter().map(|net| net.pin_tiles()).sum(),
             entries: job.entries(),
             flat_overflow: totals(block.flat_overflow()),
             layered_overflow: totals(block.layered_overflow()),
@@ -222,6 +227,7 @@ fn most_vias(block: &Block, top: usize) -> Vec<Net> {
         vias: block.net_vias[place],
         edges: block.job.nets[place].edges.len(),
         pins: block.job.nets[place].pins.len(),
+        pin_tiles: block.job.nets[place].pin_tiles(),
         score: block.order.get(turns[place].wrapping_sub(1)).map_or(0, |entry| entry.score),
         turn: turns[place],
     };
@@ -248,7 +254,7 @@ mod tests {
             |layer, used, share, full| Layer { layer, tracks: 2, used, share, full, overflowed: 0, overflow: 0 };
         assert_eq!(report.by_layer, [layer(1, 2, 1.0, 2), layer(2, 1, 0.5, 1)]);
         assert_eq!(report.vias_by_level, [Level { lower: 1, upper: 2, vias: 2 }]);
-        assert_eq!(report.most_vias, [Net { net: 1, vias: 2, edges: 2, pins: 2, score: 2500, turn: 2 }]);
+        assert_eq!(report.most_vias, [Net { net: 1, vias: 2, edges: 2, pins: 2, pin_tiles: 2, score: 2500, turn: 2 }]);
         assert_eq!(report.most_crowded.len(), 3);
     }
 

@@ -113,7 +113,9 @@ pub fn check(job: &Job, order: &[Entry], answer: &[u8], returned: &Returned) -> 
     let score = |net: &Net| {
         let d: u64 = net.edges.iter().map(users).sum();
         let c: u64 = net.edges.iter().map(tracks).sum();
-        let (l, p) = (net.edges.len() as u64, net.pins.len() as u64);
+        let first_in_tile = |at: &usize| net.pins[..*at].iter().all(|before| before.tile != net.pins[*at].tile);
+        let p = (0..net.pins.len()).filter(first_in_tile).count() as u64;
+        let l = net.edges.len() as u64;
         let c = if c == 0 { 1 } else { c };
         let l = if l == 0 { 1 } else { l };
         1000 * job.alpha / l + 1000 * job.beta * p + 1000 * job.gamma * d / c

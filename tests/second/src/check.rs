@@ -179,8 +179,11 @@ pub fn check(job: &Job, plan: &Plan) -> Result<(), String> {
         claim(!std::mem::replace(&mut placed[index], true), || format!("net {} is twice in the order", index + 1))?;
         let over = |a: u64, b: u64| a.checked_div(b).unwrap_or(a);
         let sum = |of: &[u64]| net.edges.iter().map(|e| of[*e]).sum::<u64>();
+        let mut pin_tiles: Vec<usize> = net.pins.iter().map(|pin| pin.tile).collect();
+        pin_tiles.sort_unstable();
+        pin_tiles.dedup();
         let score = over(1000 * job.alpha, net.edges.len() as u64)
-            + 1000 * job.beta * net.pins.len() as u64
+            + 1000 * job.beta * pin_tiles.len() as u64
             + over(1000 * job.gamma * sum(&demand), sum(&tracks));
         claim(entry.score == score, || format!("net {} scores {score}, not {}", entry.net, entry.score))?;
         if let Some(before) = turn.checked_sub(1).map(|turn| plan.order[turn]) {

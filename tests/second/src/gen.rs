@@ -171,6 +171,19 @@ fn pins(rng: &mut Rng, tiles: &[usize], layers: usize, most: usize) -> Vec<Pin> 
     pins
 }
 
+/// One to three pins more, each on another layer of a tile that has one.
+fn stack(rng: &mut Rng, pins: &mut Vec<Pin>, layers: usize) {
+    for _ in 0..rng.range(1, 3) {
+        let Pin { tile, layer } = rng.pick(pins);
+        let other = (usize::from(layer) - 1 + rng.range(1, layers - 1)) % layers + 1;
+        let pin = Pin { tile, layer: other as u8 };
+        if !pins.contains(&pin) {
+            let place = rng.below(pins.len() + 1);
+            pins.insert(place, pin);
+        }
+    }
+}
+
 fn net(rng: &mut Rng, grid: Grid, layers: usize, edges: usize, growth: Growth) -> Net {
     let mut edges = tree(rng, grid, edges, growth);
     rng.shuffle(&mut edges);
@@ -179,6 +192,10 @@ fn net(rng: &mut Rng, grid: Grid, layers: usize, edges: usize, growth: Growth) -
     let tiles = if tiles.is_empty() { vec![rng.below(grid.tiles())] } else { tiles };
     let most = if rng.chance(1, 3) { tiles.len() + 3 } else { 4.min(tiles.len() + 2) };
     net.pins = pins(rng, &tiles, layers, most);
+    // with those that the draw above stacks, about a third of all nets
+    if rng.chance(1, 6) {
+        stack(rng, &mut net.pins, layers);
+    }
     net
 }
 

@@ -35,10 +35,11 @@ pub fn flat(job: &Job) -> Flat {
     Flat { demand, capacity, overflow, total, maximum }
 }
 
-/// floor(1000 × alpha / L) + 1000 × beta × P + floor(1000 × gamma × D / C); a zero divisor counts as 1.
+/// floor(1000 × alpha / L) + 1000 × beta × P + floor(1000 × gamma × D / C); a zero divisor counts as 1. P is the number of
+/// different tiles on the `pins` line.
 pub fn score(job: &Job, flat: &Flat, net: &Net) -> u64 {
     let length = net.edges.len() as u64;
-    let pins = net.pins.len() as u64;
+    let pins = net.pins.iter().map(|pin| pin.tile).collect::<BTreeSet<_>>().len() as u64;
     let demand: u64 = net.edges.iter().map(|e| flat.demand[*e]).sum();
     let capacity: u64 = net.edges.iter().map(|e| flat.capacity[*e]).sum();
     1000 * job.alpha / length.max(1) + 1000 * job.beta * pins + 1000 * job.gamma * demand / capacity.max(1)

@@ -3,7 +3,7 @@
 
 use crate::calls::{answer, held, Planner, Returned};
 use crate::gen::{draw, Drawn};
-use crate::job::{read, Job, Lengths, LAST_REFUSAL};
+use crate::job::{read, Job, Lengths, Net, LAST_REFUSAL};
 use crate::plan::{print, walk, Plan};
 use crate::{brute, check};
 use std::fmt;
@@ -33,6 +33,11 @@ pub fn checked(job: &Job, plan: &Plan) -> Result<Option<u64>, String> {
     Ok(Some(layerings))
 }
 
+/// Whether several pins of the net are in one tile.
+fn stacked(net: &Net) -> bool {
+    (1..net.pins.len()).any(|at| net.pins[..at].iter().any(|before| before.tile == net.pins[at].tile))
+}
+
 /// The figures of a run.
 #[derive(Default)]
 pub struct Summary {
@@ -45,6 +50,9 @@ pub struct Summary {
     pub full: u64,
     pub largest_text: usize,
     pub most_nets: usize,
+    /// Nets of accepted jobs, and those of them with several pins in one tile.
+    pub nets: usize,
+    pub stacked: usize,
     pub most_edges: usize,
     pub most_vias: u64,
     pub with_overflow: u64,
@@ -56,6 +64,7 @@ impl fmt::Display for Summary {
     fn fmt(&self, out: &mut fmt::Formatter) -> fmt::Result {
         writeln!(out, "jobs={} damaged={} calls={}", self.jobs, self.damaged, self.calls)?;
         writeln!(out, "accepted={} of_these_with_overflow={}", self.accepted, self.with_overflow)?;
+        writeln!(out, "nets={} of_these_with_stacked_pins={}", self.nets, self.stacked)?;
         let refused: Vec<String> = (1..=LAST_REFUSAL).map(|n| format!("{n}:{}", self.refused[n])).collect();
         writeln!(out, "refused {}", refused.join(" "))?;
         write!(out, "largest accepted: text={} nets={}", self.largest_text, self.most_nets)?;
@@ -110,6 +119,8 @@ impl Summary {
             self.full += u64::from(text.len() == crate::job::TEXT_LIMIT);
             self.largest_text = self.largest_text.max(text.len());
             self.most_nets = self.most_nets.max(job.nets.len());
+            self.nets += job.nets.len();
+            self.stacked += job.nets.iter().filter(|net| stacked(net)).count();
             self.most_edges = self.most_edges.max(job.entries());
             self.most_vias = self.most_vias.max(plan.total_vias);
         }

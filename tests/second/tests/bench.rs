@@ -108,6 +108,17 @@ fn c8_c9() {
 }
 
 #[test]
+fn stacked_pins_count_once() {
+    // S-1: P is the number of different tiles on the `pins` line
+    let nets = [("0,0,1;0,0,2;0,0,3", ""), ("0,0,1;1,0,1", "0,0,e"), ("1,0,1;0,0,3;1,0,3;0,0,1", "0,0,e")];
+    let plan = planned(&text([2, 1, 3], [0, 1, 0], &[("1", ""); 3], &nets));
+    let order: Vec<(u32, u64)> = plan.order.iter().map(|entry| (entry.net, entry.score)).collect();
+    assert_eq!(order, [(2, 2000), (3, 2000), (1, 1000)]);
+    let c4 = planned(&text([1, 1, 4], [1, 1, 0], &[("", ""); 4], &[("0,0,1;0,0,4", "")]));
+    assert_eq!((c4.order[0].score, c4.total_vias), (2000, 3));
+}
+
+#[test]
 fn c10() {
     let square = ["0,0,e", "0,1,e", "0,0,n", "1,0,n"];
     let job = |edges: &[&str]| text([2, 2, 2], [1, 1, 1], &[("1,1", "1,1"); 2], &[("0,0,1;1,1,2", &edges.join(";"))]);

@@ -15,4 +15,4 @@ put-score-spec =
     (λ c. simp length-set (omega arith))
     (λ c. search needs)
     (λ c. let a = c .before .before .before .args in
-    ap₂ (λ (i k : ℕ). set (set (a .table .now) i (a .v % 4294967296)) k (a .v / 4294967296)) (c .before .entries-column .ensures .0) (c .vias-column .ensures .0)))
+    ap₂ (λ (i k : ℕ). set (set (a .table .now) i (a .v % 4294967296)) k (a .v / 4294967296)) (c .before .tiles-column .ensures .0) (c .vias-column .ensures .0)))

@@ -15,5 +15,5 @@ score-in-spec =
     (λ c. let low = c .before .before .before in
     let a = low .before .before .before .before .args in
     ap₂ (λ (x y : ℕ). x + 4294967296 * y)
-    (low .wide .ensures .0 ∙ ap (λ (k : ℕ). getD (a .table .now) k 0) (low .before .before .entries-column .ensures .0))
+    (low .wide .ensures .0 ∙ ap (λ (k : ℕ). getD (a .table .now) k 0) (low .before .before .tiles-column .ensures .0))
     (c .wide2 .ensures .0 ∙ ap (λ (k : ℕ). getD (a .table .now) k 0) (c .before .before .vias-column .ensures .0))))

@@ -43,13 +43,13 @@ c3 =
     row "width=1\nheight=1\nlayers=2\nalpha=1\nbeta=1\ngamma=0\neast=\nnorth=\neast=\nnorth=\nnets=0\n"
     (shows [] [] 0 0 0 "order=\ntotal_vias=0\ntotal_overflow=0\nmax_overflow=0\n")
 
--- C4: K = 4, one tile, pins on layers 1 and 4
+-- C4: K = 4, one tile, pins on layers 1 and 4; P is 1
 abbrev c4 : Row Outcome
 c4 =
     row
     ("width=1\nheight=1\nlayers=4\nalpha=1\nbeta=1\ngamma=0\neast=\nnorth=\neast=\nnorth=\neast=\nnorth=\neast=\nnorth=\nnets=1\n"
     then "net=1\npins=0,0,1;0,0,4\nedges=\n")
-    (shows ((1, 3000) ∷ []) ([] ∷ []) 3 0 0 "order=1\nnet=1\nvias=3\nlayers=\ntotal_vias=3\ntotal_overflow=0\nmax_overflow=0\n")
+    (shows ((1, 2000) ∷ []) ([] ∷ []) 3 0 0 "order=1\nnet=1\nvias=3\nlayers=\ntotal_vias=3\ntotal_overflow=0\nmax_overflow=0\n")
 
 -- C5 to C7: W = 2, H = 1, K = 2, each net with a pin in both tiles; the capacities of layers 1 and 2, and the number of nets
 abbrev pub pair : String → String → String → String

@@ -13,7 +13,7 @@ use Rattle.model.specs.Overflow.{flatDemand, flatCapacity, flatOverflow,
 use Rattle.model.specs.Plan.{legal, plan, totalVias}
 use Rattle.model.specs.Read.{Result, found, read}
 use Rattle.model.specs.Rows.Row.{Row, _gives_, textOf, lent}
-use Rattle.model.specs.Score.{Entry, lengthTerm, pinTerm, densityTerm, score, sorted, order}
+use Rattle.model.specs.Score.{Entry, lengthTerm, pinTerm, densityTerm, differentTiles, score, sorted, order}
 use Rattle.model.specs.Tree.{ring, joined}
 use Rattle.model.specs.Vias.{span, vias}
 use Rattle.model.specs.Walk.{netTiles, walk}
@@ -120,6 +120,19 @@ weighed a b g = record {
   nets = netWith (pin 0 1 ∷ pin 0 2 ∷ pin 2 1 ∷ []) (0 ∷ 1 ∷ []) ∷ netWith (pin 1 1 ∷ []) (1 ∷ []) ∷ netWith (pin 1 1 ∷ pin 1 2 ∷ []) [] ∷ [];
 }
 
+-- K = 3; net 1 has three pins in one tile, net 2 two pins in two tiles, net 3 four pins in two tiles, mixed
+abbrev stacked : Job
+stacked = record {
+  width = 2;
+  height = 1;
+  layers = 3;
+  alpha = 0;
+  beta = 1;
+  gamma = 0;
+  capacities = (1 ∷ []) ∷ (1 ∷ []) ∷ (1 ∷ []) ∷ [];
+  nets = netWith (pin 0 1 ∷ pin 0 2 ∷ pin 0 3 ∷ []) [] ∷ netWith (pin 0 1 ∷ pin 1 1 ∷ []) (0 ∷ []) ∷ netWith (pin 1 1 ∷ pin 0 3 ∷ pin 1 3 ∷ pin 0 1 ∷ []) (0 ∷ []) ∷ [];
+}
+
 abbrev scoreIn : Job → ℕ → ℕ
 scoreIn j n = score j (netOf j n)
 
@@ -133,15 +146,19 @@ scoreRows =
     -- "floor(1000 × gamma × D / C)"
     ∷ (densityTerm 1 2 3 gives 666) ∷ (densityTerm 2 2 3 gives 1_333) ∷ (densityTerm 1 3 0 gives 3_000) ∷ (densityTerm 1 3 1 gives 3_000)
     ∷ (densityTerm 255 4 2 gives 510_000) ∷ (densityTerm 1 0 0 gives 0)
-    -- "L is the number of edges of the net. P is the number of entries on its `pins` line, stacked ones counted singly.
-    -- D and C are the sums of d(e) and c(e) over its edges."
-    ∷ (scoreIn (weighed 3 0 0) 1 gives 1_500) ∷ (scoreIn (weighed 0 5 0) 1 gives 15_000) ∷ (scoreIn (weighed 0 0 2) 1 gives 461)
-    ∷ (scoreIn (weighed 3 5 2) 1 gives 16_961) ∷ (scoreIn (weighed 3 5 2) 2 gives 8_400) ∷ (scoreIn (weighed 3 5 2) 3 gives 13_000) ∷ []
+    -- "P becomes the number of different tiles on the `pins` line."
+    ∷ (differentTiles (pin 4 1 ∷ []) gives 1) ∷ (differentTiles (pin 4 1 ∷ pin 4 2 ∷ pin 4 3 ∷ []) gives 1) ∷ (differentTiles (pin 4 1 ∷ pin 5 1 ∷ pin 4 2 ∷ []) gives 2)
+    ∷ (differentTiles (pin 4 1 ∷ pin 5 1 ∷ pin 6 1 ∷ []) gives 3)
+    -- "L is the number of edges of the net. [..] D and C are the sums of d(e) and c(e) over its edges."
+    ∷ (scoreIn (weighed 3 0 0) 1 gives 1_500) ∷ (scoreIn (weighed 0 5 0) 1 gives 10_000) ∷ (scoreIn (weighed 0 0 2) 1 gives 461)
+    ∷ (scoreIn (weighed 3 5 2) 1 gives 11_961) ∷ (scoreIn (weighed 3 5 2) 2 gives 8_400) ∷ (scoreIn (weighed 3 5 2) 3 gives 8_000) ∷ []
 
 -- "Higher scores go first; equal scores, the lower net number first."
 abbrev pub orderRows : List (Row (List Entry))
 orderRows =
-    (order (weighed 3 5 2) gives entry 1 16_961 ∷ entry 3 13_000 ∷ entry 2 8_400 ∷ [])
+    (order (weighed 3 5 2) gives entry 1 11_961 ∷ entry 2 8_400 ∷ entry 3 8_000 ∷ [])
+    -- three stacked pins go behind two pins in two tiles
+    ∷ (order stacked gives entry 2 2_000 ∷ entry 3 2_000 ∷ entry 1 1_000 ∷ [])
     ∷ (order (weighed 0 0 0) gives entry 1 0 ∷ entry 2 0 ∷ entry 3 0 ∷ []) ∷ (order (weighed 1 0 0) gives entry 2 1_000 ∷ entry 3 1_000 ∷ entry 1 500 ∷ [])
     ∷ (sorted (entry 1 5 ∷ entry 2 7 ∷ entry 3 5 ∷ entry 4 7 ∷ entry 5 6 ∷ [])
     gives entry 2 7 ∷ entry 4 7 ∷ entry 5 6 ∷ entry 1 5 ∷ entry 3 5 ∷ []) ∷ []

@@ -5,7 +5,7 @@ use Prim.Native.Nat.{ℕ, suc}
 use native.Mathlib.Omega.{arith}
 use borrow.Author.Needs.{needs}
 use lib.ListN.{getD}
-use Rattle.layout.specs.Table.{edgesColumn, entriesColumn, countColumn}
+use Rattle.layout.specs.Table.{edgesColumn, tilesColumn, countColumn}
 use Rattle.model.specs.Job.{netOf}
 use Rattle.order.specs.Ready.{SomeNet}
 use Rattle.order.proofs.Scores.{line-there, line-at, weights-small, pins-small, demand-small, score-is}
@@ -39,8 +39,8 @@ module _ (c : tie.After-wide2) where
       c .before .before .before .wide .ensures .0
       ∙ ap (λ (k : ℕ). getD (s .args .table .now) k 0) (c .before .before .before .before .before .count-column .ensures .0)
 
-  pins-is : pins ≡ getD (s .args .table .now) (entriesColumn (s .args .i)) 0
-  pins-is = c .wide2 .ensures .0 ∙ ap (λ (k : ℕ). getD (s .args .table .now) k 0) (c .before .before .entries-column .ensures .0)
+  pins-is : pins ≡ getD (s .args .table .now) (tilesColumn (s .args .i)) 0
+  pins-is = c .wide2 .ensures .0 ∙ ap (λ (k : ℕ). getD (s .args .table .now) k 0) (c .before .before .tiles-column .ensures .0)
 
 weighed-density-requires : tie.Need-weighed-density-requires
 weighed-density-requires c κs =

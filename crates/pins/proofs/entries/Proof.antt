@@ -20,7 +20,7 @@ use Rattle.pins.proofs.entries.Tie as tie
 
 abbrev Inv-loop : tie.InvT-loop
 Inv-loop s c a₀ g stamp i₀ v₀ a i v =
-    (length a ≡ length a₀) × (v .tiles ≤ v .entries) × (v .entries + c .at ≤ i) × (v .entries ≤ length s)
+    (length a ≡ length a₀) × (v .tiles + c .at ≤ i) × (v .tiles ≤ length s)
     × (finish g stamp (c .line) start a₀ (pinsOf (drop (c .at) s)) ≡ finish g stamp (c .line) v a (pinsOf (drop i s)))
 
 abbrev μ-loop : tie.MeasureT-loop
@@ -32,13 +32,13 @@ returns c =
     let x = c .before .before .before .before .before .before .before .args in
     let r = c .before .before .item-of .result in
     let e = entry-is r (pinEntryAt (x .s .now) (l .i)) false (r .last) (not-true _ (c .if1 .taken)) refl (c .before .before .item-of .ensures ∙ c .before .before .before .pin-at .ensures) in
-    (sym (l .inv .4 ∙ turn-bad (x .g) (x .stamp) (x .c .line) (x .s .now) (l .i) (l .v) (l .a) e), (tt, l .inv .0))
+    (sym (l .inv .3 ∙ turn-bad (x .g) (x .stamp) (x .c .line) (x .s .now) (l .i) (l .v) (l .a) e), (tt, l .inv .0))
 
 put-pin-requires : tie.Need-put-pin-requires Inv-loop μ-loop
 put-pin-requires c κs =
     let l = c .before .before .before .before .before .loop in
     let p = c .before .before .before .before .before .before .before .before .pre in
-    (p .0, (omega (arith, p .1 .0, l .inv .0), p .1 .1, omega (arith, p .1 .2, l .inv .3), l .inv .1))
+    (p .0, (omega (arith, p .1 .0, l .inv .0), p .1 .1, omega (arith, p .1 .2, l .inv .2)))
 
 same-length-2 : tie.Need-same-length-2 Inv-loop μ-loop
 same-length-2 c =
@@ -55,7 +55,7 @@ returns-2 c =
     let r = c .before .before .before .before .before .before .before .before .item-of .result in
     let p = c .before .before .before .before .put-pin in
     let e = entry-is r (pinEntryAt (x .s .now) (l .i)) true true (not-false _ (c .before .before .before .before .before .before .if1 .left)) (c .before .if2 .taken) (c .before .before .before .before .before .before .before .before .item-of .ensures ∙ c .before .before .before .before .before .before .before .before .before .pin-at .ensures) in (
-      sym (l .inv .4 ∙ turn-last (x .g) (x .stamp) (x .c .line) (x .s .now) (l .i) (l .v) (l .a)
+      sym (l .inv .3 ∙ turn-last (x .g) (x .stamp) (x .c .line) (x .s .now) (l .i) (l .v) (l .a)
           (r .x) (r .y) (r .z) (r .next) (p .result) (p .last .0) (p .ensures .0) (p .ensures .1) (x .c .at) (c .verdict .result) (c .verdict .ensures) e),
       (
         last-place (x .s .now) (l .i) (r .x) (r .y) (r .z) (r .next) e (p .result) (x .c .at) (x .c .line) (c .verdict .result) (c .verdict .ensures),
@@ -81,12 +81,11 @@ loop-again c =
     let p = c .before .before .before .put-pin in
     let y = triple (r .x) (r .y) (r .z) in
     let t = turn-place (x .s .now) (l .i) (r .x) (r .y) (r .z) (r .next) (more c) in
-    let k = seen-counts (x .g) (x .stamp) (l .a) (l .v) y (l .inv .1) in (
+    let k = seen-counts (x .g) (x .stamp) (l .a) (l .v) y in (
       ap length (p .ensures .1) ∙ work-long (x .g) (x .stamp) (l .a) y ∙ l .inv .0,
-      rw (p .ensures .0) (k .1),
-      omega (arith, t .0, k .0, ap (λ (z : Seen). z .entries) (p .ensures .0), l .inv .2),
-      omega (arith, t .0, t .1, k .0, ap (λ (z : Seen). z .entries) (p .ensures .0), l .inv .2),
-      l .inv .4
+      omega (arith, t .0, k, ap (λ (z : Seen). z .tiles) (p .ensures .0), l .inv .1),
+      omega (arith, t .0, t .1, k, ap (λ (z : Seen). z .tiles) (p .ensures .0), l .inv .1),
+      l .inv .3
           ∙ turn-more (x .g) (x .stamp) (x .c .line) (x .s .now) (l .i) (l .v) (l .a) (r .x) (r .y) (r .z) (r .next) (p .result) (p .last .0) (p .ensures .0) (p .ensures .1) (more c),
     )
 
@@ -95,7 +94,7 @@ entries-spec =
     tie.close
     (tie.spec
     Inv-loop μ-loop
-    (λ c. (refl, omega arith, omega arith, omega arith, refl))
+    (λ c. (refl, omega arith, omega arith, refl))
     (λ c κs. search needs) (λ c κs. search needs)
     (λ c. c .before .before .before .before .loop .inv .0)
     returns

@@ -26,8 +26,8 @@ module _ (c : tie.Else1) where
 
 returns : tie.Need-returns
 returns c =
-    let x = c .before .before .before .before .args in
-    put-outside (x .g) (x .stamp) (x .a .now) (x .v) (x .e .x) (x .e .y) (x .e .z) (sym (c .before .before .inside .ensures) ∙ not-true _ (c .before .if1 .taken))
+    let x = c .before .before .before .args in
+    put-outside (x .g) (x .stamp) (x .a .now) (x .v) (x .e .x) (x .e .y) (x .e .z) (sym (c .before .inside .ensures) ∙ not-true _ (c .if1 .taken))
 
 tile-at-requires : tie.Need-tile-at-requires
 tile-at-requires c κs = (start c .pre .0, (ins c .0, ins c .1))
@@ -36,7 +36,7 @@ mark-pin-requires : tie.Need-mark-pin-requires
 mark-pin-requires c κs =
     let i = ins (c .before .before) in
     let p = start (c .before .before) .pre in
-    (omega (arith, c .before .tile-at .ensures .1, p .1 .0), i .2, omega (arith, i .3, p .0 .k-most), p .1 .1, p .1 .2, p .1 .3)
+    (omega (arith, c .before .tile-at .ensures .1, p .1 .0), i .2, omega (arith, i .3, p .0 .k-most), p .1 .1, p .1 .2)
 
 returns-2 : tie.Need-returns-2
 returns-2 c =
@@ -48,4 +48,4 @@ returns-2 c =
 
 pub put-pin-spec : {M : Type 1} → statement M
 put-pin-spec =
-    tie.close (tie.spec (λ c κs. search needs) (λ c. search needs) returns tile-at-requires mark-pin-requires (λ c. search needs) returns-2)
+    tie.close (tie.spec (λ c κs. search needs) returns tile-at-requires mark-pin-requires (λ c. search needs) returns-2)

@@ -222,6 +222,7 @@ function showNet() {
       ['net vias', vias],
       ['edges', edges.length],
       ['pins', pins.length],
+      ['in tiles', new Set(pins.map((code) => code >> 3)).size],
       ['on layers', layers.join(', ') || 'none'],
       ['turn', `${group(turn)} of ${group(NETS)}`],
       ['score', group(score)],

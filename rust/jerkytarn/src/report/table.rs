@@ -90,7 +90,7 @@ pub fn put_block(out: &mut String, report: &Report, style: Style) {
     line!(out, "  layers            {}", report.layers);
     line!(out, "  edges of a layer  {}", g(report.edges));
     line!(out, "  nets              {}", g(report.nets));
-    line!(out, "  pins              {}", g(report.pins));
+    line!(out, "  pins              {}, in {} tiles of their nets", g(report.pins), g(report.pin_tiles));
     line!(out, "  edge entries      {}", g(report.entries));
     line!(out, "  flat overflow     total {}, maximum {}", g(flat.total), g(flat.maximum));
     line!(out, "  layered overflow  total {}, maximum {}", g(layered.total), g(layered.maximum));
@@ -169,10 +169,16 @@ fn put_nets(out: &mut String, report: &Report) {
         line!(out, "    none: no net has a via");
         return;
     }
-    line!(out, "      net     vias    edges     pins   turn          score");
+    line!(out, "      net     vias    edges     pins in tiles   turn          score");
     for row in &report.most_vias {
-        let (vias, edges, pins) = (g(row.vias), g(row.edges), g(row.pins));
-        line!(out, "    {:>5} {vias:>8} {edges:>8} {pins:>8} {:>6} {:>14}", row.net, row.turn, grouped(row.score));
+        let (vias, edges, pins, tiles) = (g(row.vias), g(row.edges), g(row.pins), g(row.pin_tiles));
+        line!(
+            out,
+            "    {:>5} {vias:>8} {edges:>8} {pins:>8} {tiles:>8} {:>6} {:>14}",
+            row.net,
+            row.turn,
+            grouped(row.score)
+        );
     }
 }
 
