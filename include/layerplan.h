@@ -47,11 +47,14 @@ extern "C" {
  *   6        the line         same edge twice on `edges`
  *   7        `edges` line     the net's edges contain a ring
  *   8        `edges` line     no ring, but a pin or edge not reached from the first pin's tile along the edges
- *   9        3                fewer working numbers than needed
+ *   9        3 or 4           fewer working numbers than needed; 4 where line 4 begins `dirs=`
  *   10       `nets` line      fewer order entries than nets
  *   11       the last line    answer list or print buffer too short
+ *   12       the line         a nonzero capacity on a layer that runs the other way
+ *   13       `edges` line     an edge whose direction has no layer
  *
- * Lines count from 1; a missing line has the number that it would have had.
+ * Lines count from 1; a missing line has the number that it would have had. The first line with a fault decides, and on
+ * one line the lower number; but 13 wins over 11, which is found after the whole text.
  */
 typedef struct layerplan_result {
     uint64_t number;  /* of the refusal, 0 where the job is accepted */
@@ -98,7 +101,8 @@ typedef struct layerplan_entry {
 /*
  * Plan: reads the job text and finds the layer of every edge of every net.
  *
- *   text     the job text; only read
+ *   text     the job text; only read. Right after `layers` it may have the line `dirs`, a letter for each layer with
+ *            commas between: edges to the east then use only layers with `h`, edges to the north only layers with `v`
  *   work     working numbers. What they held is of no account. After every call, refused or not, all work_length of
  *            them are 0
  *   order    the order list: the nets with their scores, in placing order. The bytes between net and score are of no

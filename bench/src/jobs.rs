@@ -1,11 +1,16 @@
-//! The jobs: five families at four sizes, and those that show the growth. Each is made from a fixed seed.
+//! The jobs: six families at four sizes, and those that show the growth. Each is made from a fixed seed.
 //!
 //! From one size to the next the grid's tiles, the bytes of the text and, where it is given, the number of nets grow
 //! fourfold, up to the limits of document 01: 64 × 64 tiles, 8 layers, 4,096 nets, 1,048,576 bytes.
 
 use second::gen::Rng;
 
-pub const FAMILIES: [&str; 5] = ["congested", "plenty", "branches", "giant", "short"];
+pub const FAMILIES: [&str; 6] = ["congested", "plenty", "branches", "giant", "short", "directions"];
+
+/// The family whose grids, nets and tracks the jobs of `directions` have: the two differ by the `dirs` line alone, and by
+/// the layers that the tracks are on.
+pub const PARTNER: &str = "congested";
+
 pub const SIZES: [usize; 4] = [1, 2, 3, 4];
 
 const LAYERS: usize = 8;
@@ -121,12 +126,36 @@ fn net(rng: &mut Rng, side: usize, number: usize, mut edges: Vec<Edge>, pins: us
     format!("net={number}\npins={}\nedges={}\n", pins.join(";"), edges.join(";"))
 }
 
-/// The lines before `nets`, with capacities from `least` to `most`.
-fn head(rng: &mut Rng, side: usize, least: usize, most: usize) -> String {
-    let mut text = format!("width={side}\nheight={side}\nlayers={LAYERS}\nalpha=3\nbeta=2\ngamma=5\n");
-    for _ in 0..LAYERS {
-        for key in ["east", "north"] {
-            let list: Vec<String> = (0..side * (side - 1)).map(|_| rng.range(least, most).to_string()).collect();
+/// The capacities of every layer, to the east and to the north, each from `least` to `most`.
+type Tracks = Vec<[Vec<usize>; 2]>;
+
+fn tracks(rng: &mut Rng, side: usize, least: usize, most: usize) -> Tracks {
+    let mut list = || (0..side * (side - 1)).map(|_| rng.range(least, most)).collect();
+    (0..LAYERS).map(|_| [list(), list()]).collect()
+}
+
+/// The same tracks where layers run by turns to the east and to the north. Of each pair of layers, the first has all tracks
+/// of the pair to the east and the second all of them to the north; the other lists of the two hold 0, as they must. So an
+/// edge has as many tracks as before, on half of the layers: its overflow on the flat plan, the scores and the order of the
+/// nets stay what they were.
+fn by_turns(tracks: &Tracks) -> Tracks {
+    let sum = |a: &[usize], b: &[usize]| a.iter().zip(b).map(|(a, b)| a + b).collect();
+    let none = |list: &[usize]| vec![0; list.len()];
+    let mut turned = Vec::new();
+    for pair in tracks.chunks(2) {
+        let [[east, north], [other_east, other_north]] = [&pair[0], &pair[1]];
+        turned.push([sum(east, other_east), none(north)]);
+        turned.push([none(east), sum(north, other_north)]);
+    }
+    turned
+}
+
+/// The lines before `nets`.
+fn head(side: usize, dirs: &str, tracks: &Tracks) -> String {
+    let mut text = format!("width={side}\nheight={side}\nlayers={LAYERS}\n{dirs}alpha=3\nbeta=2\ngamma=5\n");
+    for layer in tracks {
+        for (key, list) in ["east", "north"].iter().zip(layer) {
+            let list: Vec<String> = list.iter().map(usize::to_string).collect();
             text += &format!("{key}={}\n", list.join(","));
         }
     }
@@ -135,6 +164,20 @@ fn head(rng: &mut Rng, side: usize, least: usize, most: usize) -> String {
 
 /// The job of a family at a size.
 pub fn job(family: &str, size: usize) -> String {
+    match family {
+        "directions" => {
+            let (tracks, nets) = parts(PARTNER, size);
+            head(4 << size, "dirs=h,v,h,v,h,v,h,v\n", &by_turns(&tracks)) + &nets
+        }
+        _ => {
+            let (tracks, nets) = parts(family, size);
+            head(4 << size, "", &tracks) + &nets
+        }
+    }
+}
+
+/// The capacities of a job without directions, and its lines from `nets` on.
+fn parts(family: &str, size: usize) -> (Tracks, String) {
     let place = FAMILIES.iter().position(|name| *name == family).expect("a family");
     let rng = &mut Rng::new(1000 * place as u64 + size as u64);
     let side = 4 << size;
@@ -144,7 +187,8 @@ pub fn job(family: &str, size: usize) -> String {
         "plenty" => (30, 99),
         _ => (0, 9),
     };
-    let head = head(rng, side, least, most);
+    let tracks = tracks(rng, side, least, most);
+    let head = head(side, "", &tracks);
     // what `nets` takes at most
     let mut left = bytes - head.len() - "nets=4096\n".len();
     let count = match family {
@@ -189,13 +233,13 @@ pub fn job(family: &str, size: usize) -> String {
         left -= net.len();
         nets.push(net);
     }
-    format!("{head}nets={}\n{}", nets.len(), nets.concat())
+    (tracks, format!("nets={}\n{}", nets.len(), nets.concat()))
 }
 
 /// A job on the largest grid with so many nets of so many edges each.
 pub fn growth(nets: usize, edges: usize) -> String {
     let rng = &mut Rng::new(77);
-    let mut text = head(rng, 64, 0, 9) + &format!("nets={nets}\n");
+    let mut text = head(64, "", &tracks(rng, 64, 0, 9)) + &format!("nets={nets}\n");
     for number in 1..=nets {
         let tree = grown(rng, 64, edges, false);
         text += &net(rng, 64, number, tree, 3);

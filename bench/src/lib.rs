@@ -1,11 +1,11 @@
 //! The proved planner held against two planners in Rust, on jobs made by fixed seeds.
 //!
-//! - `jobs`: the jobs, in five families at four sizes, and those that show the growth.
+//! - `jobs`: the jobs, in six families at four sizes, and those that show the growth.
 //! - `proved`: the proved planner, from its static library.
 //! - `plain`: the paper's algorithm written plainly.
 //! - `optimised`: a planner written for speed.
 //!
-//! The last two follow only what jobs without optional lines need, and end with a message where they meet such a line
+//! The last two know `dirs` of the optional lines, and end with a message where they meet another
 //! (`no_optional_lines`). What follows every change is the second implementation, `tests/second`.
 
 pub mod jobs;
@@ -36,21 +36,21 @@ pub struct Lent<'a> {
     pub print: Option<&'a mut [u8]>,
 }
 
-/// The keys of lines that a job may have or not (document 02).
-const OPTIONAL: [&str; 3] = ["dirs=", "viacost=", "low="];
+/// The keys of lines that a job may have or not (document 02), but for `dirs`.
+const OPTIONAL: [&str; 2] = ["viacost=", "low="];
 
-/// The plain and the optimised planner follow only what jobs without optional lines need. Where they, or what lends to
-/// them, would have to do with such a line, this says so and ends: their answer would be that of another job.
+/// The plain and the optimised planner do not know these lines. Where they, or what lends to them, would have to do with
+/// one, this says so and ends: their answer would be that of another job.
 fn no_optional_lines(text: &[u8]) {
     for line in text.split(|byte| *byte == 10) {
         if let Some(key) = OPTIONAL.iter().find(|key| line.starts_with(key.as_bytes())) {
-            panic!("the planners of the bench know no optional lines, and this job has one: {key}");
+            panic!("the planners of the bench do not know a line that this job has: {key}");
         }
     }
 }
 
-/// What the plain and the optimised planner return for a text that they refuse. They read no optional line, so a text
-/// with one always comes here.
+/// What the plain and the optimised planner return for a text that they refuse. They read none of the lines above, so a
+/// text with one always comes here.
 #[cold]
 fn refused(text: &[u8], number: u64, line: u64) -> Returned {
     no_optional_lines(text);
@@ -97,7 +97,8 @@ impl Buffers {
         };
         let lines: Vec<&[u8]> = text.split(|byte| *byte == 10).collect();
         let [w, h, k] = [value(lines[0]), value(lines[1]), value(lines[2])];
-        let nets = value(lines[6 + 2 * k]);
+        let directions = usize::from(lines[3].starts_with(b"dirs="));
+        let nets = value(lines[6 + directions + 2 * k]);
         let edges = (w - 1) * h + w * (h - 1);
         let lists = lines.iter().filter_map(|line| line.strip_prefix(b"edges="));
         let entries: usize =

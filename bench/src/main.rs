@@ -5,6 +5,7 @@
 //! `bench times FILE COUNT`: the best of so many times of each planner, in nanoseconds.
 //! `bench stack PLANNER FILE`: how many bytes of stack a call takes.
 //! `bench self SEED COUNT`: draws jobs and damaged texts, and holds each planner to the second planner's answers and buffers.
+//! `bench self SEED COUNT PLANNER`: the same of one planner.
 
 use bench::{call, jobs, Buffers, Which, PLANNERS};
 use std::hint::black_box;
@@ -13,7 +14,7 @@ use std::process::exit;
 use std::time::Instant;
 
 fn usage() -> ! {
-    eprintln!("bench jobs FOLDER | run PLANNER FILE [plan|short|wrong] | times FILE COUNT | stack PLANNER FILE | self SEED COUNT");
+    eprintln!("bench jobs FOLDER | run PLANNER FILE [plan|short|wrong] | times FILE COUNT | stack PLANNER FILE | self SEED COUNT [PLANNER]");
     exit(2)
 }
 
@@ -126,11 +127,11 @@ fn stack(which: Which, file: &str) {
     println!("{}", measured.unwrap().join().unwrap());
 }
 
-fn check(seed: u64, count: u64) {
-    for (name, which) in PLANNERS {
+fn check(seed: u64, count: u64, planners: &[(&str, Which)]) {
+    for (name, which) in planners {
         let mut summary = second::run::Summary::default();
         for place in 0..count {
-            if let Err(fault) = summary.add(&which, (seed << 32) + place) {
+            if let Err(fault) = summary.add(which, (seed << 32) + place) {
                 println!("{name}: FAILED {fault}");
                 exit(1);
             }
@@ -154,7 +155,8 @@ fn main() {
         ["run", which, file, how] => run(named(which), file, how),
         ["times", file, count] => times(file, number(count) as usize),
         ["stack", which, file] => stack(named(which), file),
-        ["self", seed, count] => check(number(seed), number(count)),
+        ["self", seed, count] => check(number(seed), number(count), &PLANNERS),
+        ["self", seed, count, name] => check(number(seed), number(count), &[(name, named(name))]),
         _ => usage(),
     }
 }

@@ -9,8 +9,12 @@ use crate::{refused, Lent, Returned};
 
 struct Refusal(u64, u64);
 
-/// The tracks left on each of eight layers. Where there are fewer layers, the others are never legal.
+/// The tracks left on each of eight layers. Where there are fewer layers, the others are never legal; neither is a layer that
+/// runs the other way.
 type Tracks = [i16; 8];
+
+/// The tracks of a layer that is never legal.
+const CLOSED: i16 = i16::MIN;
 
 /// A cost for each of eight layers.
 type Row = [u32; 8];
@@ -110,6 +114,10 @@ struct Shape {
     width: usize,
     height: usize,
     layers: usize,
+    /// The sets of layers that edges to the east, and those to the north, may not use. Without a `dirs` line both are empty.
+    closed: [u8; 2],
+    /// How many layers each of them may use.
+    open: [u32; 2],
 }
 
 /// What is kept of a net: where its entries stand, the place of its first layer, in how many tiles its pins are and later its vias.
@@ -178,7 +186,8 @@ impl Reader<'_> {
         Err(Refusal(number, self.line))
     }
 
-    /// The next line begins with this key. An optional line has another, and is not for this planner: `refused`.
+    /// The next line begins with this key. An optional line other than `dirs` has another, and is not for this planner:
+    /// `refused`.
     #[inline(always)]
     fn key(&mut self, key: &[u8]) -> Result<(), Refusal> {
         self.line += 1;
@@ -210,9 +219,45 @@ impl Reader<'_> {
         Ok(value)
     }
 
-    /// The capacities of one layer: `across` in each of `rows` rows, from each tile to the east or north.
-    fn capacities(&mut self, key: &[u8], w: &mut Work, g: Shape, north: bool, layer: usize) -> Result<(), Refusal> {
-        let (across, rows) = if north { (g.width, g.height - 1) } else { (g.width - 1, g.height) };
+    /// The `dirs` line: the layers that are closed to the east, and to the north.
+    fn dirs(&mut self, layers: usize) -> Result<[u8; 2], Refusal> {
+        self.key(b"dirs=")?;
+        let mut closed = [0; 2];
+        for layer in 0..layers {
+            match at(self.text, self.at) {
+                b'h' => closed[1] |= 1 << layer,
+                b'v' => closed[0] |= 1 << layer,
+                _ => return self.refusal(2),
+            }
+            // a letter is not the byte that ends the text
+            if at(self.text, self.at + 1) != if layer + 1 == layers { b'\n' } else { b',' } {
+                return self.refusal(2);
+            }
+            self.at += 2;
+        }
+        Ok(closed)
+    }
+
+    /// The capacities of one layer, those to the east (0) or to the north (1).
+    fn capacities(&mut self, key: &[u8], w: &mut Work, g: Shape, way: usize, layer: usize) -> Result<(), Refusal> {
+        if g.closed[way] >> layer & 1 == 0 {
+            return self.list(key, g, way, |edge, value| {
+                of(w.tracks, edge)[layer] = value as i16;
+                of(w.flat, edge)[1] += value as u32;
+            });
+        }
+        let mut none = true;
+        self.list(key, g, way, |_, value| none &= value == 0)?;
+        if !none {
+            return self.refusal(12);
+        }
+        Ok(())
+    }
+
+    /// A list of capacities: `across` in each of `rows` rows, from each tile to the east or north.
+    #[inline(always)]
+    fn list(&mut self, key: &[u8], g: Shape, way: usize, mut each: impl FnMut(usize, usize)) -> Result<(), Refusal> {
+        let (across, rows) = if way == 1 { (g.width, g.height - 1) } else { (g.width - 1, g.height) };
         self.key(key)?;
         let mut inside = true;
         let mut left = across * rows;
@@ -231,9 +276,7 @@ impl Reader<'_> {
                 }
                 self.at = place + 1;
                 inside &= value <= 255;
-                let edge = 2 * (y * g.width + x) + usize::from(north);
-                of(w.tracks, edge)[layer] = value as i16;
-                of(w.flat, edge)[1] += value as u32;
+                each(2 * (y * g.width + x) + way, value);
             }
         }
         if !inside {
@@ -335,6 +378,14 @@ impl Reader<'_> {
         }
         Ok(edges)
     }
+}
+
+/// Whether each edge of the known ones from a place on goes a way that some layer runs.
+#[cold]
+fn have_layers(text: &[u8], from: usize, g: Shape) -> bool {
+    let mut all = true;
+    known_edges(text, from, g.width, |_, north| all &= g.open[north] > 0);
+    all
 }
 
 /// The root of a tile. A tile's parent is not below it, so a link of an earlier stamp is below the tile itself.
@@ -539,16 +590,16 @@ fn costs(rows: &[Row], first: usize, branches: usize, pins: usize) -> Row {
     }
 }
 
-/// The rows of the tiles from the last to the one after the root.
+/// The rows of the tiles from the last to the one after the root. There is a limit to the east and one to the north.
 #[inline(never)]
-fn fill_rows(w: &mut Work, count: usize, limit: i16) {
+fn fill_rows(w: &mut Work, count: usize, limits: [i16; 2]) {
     for place in (1..count).rev() {
         let end = at(w.ends, place);
         let first = at(w.ends, place - 1) as usize & 0xffff;
         let costs = costs(w.rows, first, (end as usize & 0xffff) - first, (end >> 16) as usize);
         let edge = (at(w.stops, place) >> 16) as usize;
         let tracks = at(w.tracks, edge);
-        let room = if at(w.flat, edge)[0] > 0 { limit } else { 0 };
+        let room = if at(w.flat, edge)[0] > 0 { limits[edge & 1] } else { 0 };
         let row = of(w.rows, place);
         for layer in 0..8 {
             row[layer] = if tracks[layer] > -room { costs[layer] } else { ILLEGAL };
@@ -617,6 +668,15 @@ fn take_branches(w: &mut Work, first: usize, branches: usize, base: usize, goal:
             }
         }
     }
+}
+
+/// The most overflow of one layer to the east and to the north, from the largest overflows of the flat plan there. A
+/// direction without a layer has no overflow.
+fn limits(g: Shape, most: [u32; 2]) -> [u32; 2] {
+    if g.closed == [0; 2] {
+        return [most[0].max(most[1]).div_ceil(g.layers as u32); 2];
+    }
+    [0, 1].map(|way| most[way].div_ceil(g.open[way].max(1)))
 }
 
 /// Chooses the layers of the net that is walked. Its vias.
@@ -705,7 +765,10 @@ fn run(text: &[u8], lent: Lent) -> Result<Returned, Refusal> {
     let width = reader.ranged(b"width=", 1, 64)?;
     let height = reader.ranged(b"height=", 1, 64)?;
     let layers = reader.ranged(b"layers=", 2, 8)?;
-    let g = Shape { width, height, layers };
+    // the line is there where its key is, also without an end
+    let closed = if text[reader.at..].starts_with(b"dirs=") { reader.dirs(layers)? } else { [0; 2] };
+    let open = closed.map(|set: u8| layers as u32 - set.count_ones());
+    let g = Shape { width, height, layers, closed, open };
     let tiles = width * height;
     let edges = (width - 1) * height + width * (height - 1);
     if work.len() < 2 * layers * edges + 2 * edges + 32 * tiles {
@@ -713,15 +776,15 @@ fn run(text: &[u8], lent: Lent) -> Result<Returned, Refusal> {
     }
     work[..WORDS * tiles].fill(0);
     let w = &mut split(work, tiles);
-    if layers < 8 {
-        w.tracks.fill([i16::MIN; 8]);
+    if layers < 8 || closed != [0; 2] {
+        w.tracks.fill([CLOSED; 8]);
     }
     let alpha = reader.ranged(b"alpha=", 0, 255)? as u64;
     let beta = reader.ranged(b"beta=", 0, 255)? as u64;
     let gamma = reader.ranged(b"gamma=", 0, 255)? as u64;
     for layer in 0..layers {
-        reader.capacities(b"east=", w, g, false, layer)?;
-        reader.capacities(b"north=", w, g, true, layer)?;
+        reader.capacities(b"east=", w, g, 0, layer)?;
+        reader.capacities(b"north=", w, g, 1, layer)?;
     }
     let count = reader.ranged(b"nets=", 0, 4096)?;
     if order.len() < count {
@@ -743,6 +806,10 @@ fn run(text: &[u8], lent: Lent) -> Result<Returned, Refusal> {
         kept.edges = reader.at as u32;
         kept.first = entries;
         entries += reader.edges(w, g, base, tiles)?;
+        // where all layers run one way, the line is gone over once more
+        if open.contains(&0) && !have_layers(text, kept.edges as usize, g) {
+            return reader.refusal(13);
+        }
     }
     table[count].first = entries;
     if reader.at < text.len() {
@@ -776,13 +843,16 @@ fn run(text: &[u8], lent: Lent) -> Result<Returned, Refusal> {
         entry.score >>= 12;
     }
 
-    let (mut total, mut most) = (0, 0);
-    for [demand, capacity] in w.flat.iter_mut() {
-        *demand = demand.saturating_sub(*capacity);
-        total += u64::from(*demand);
-        most = most.max(*demand);
+    let (mut total, mut most) = (0, [0; 2]);
+    for pair in w.flat.chunks_exact_mut(2) {
+        for (way, [demand, capacity]) in pair.iter_mut().enumerate() {
+            *demand = demand.saturating_sub(*capacity);
+            total += u64::from(*demand);
+            most[way] = most[way].max(*demand);
+        }
     }
-    let limit = most.div_ceil(layers as u32);
+    let limits = limits(g, most);
+    let maximum = limits[0].max(limits[1]);
 
     let mut vias = 0;
     for (turn, entry) in order.iter().enumerate() {
@@ -790,7 +860,7 @@ fn run(text: &[u8], lent: Lent) -> Result<Returned, Refusal> {
         let kept = at(&table, net);
         let low = mark(text, kept, w, g, ((count + 1 + turn) as u32) << STAMP);
         let tiles = walk(w, width, low);
-        fill_rows(w, tiles, limit as i16);
+        fill_rows(w, tiles, limits.map(|limit| limit as i16));
         let cost = choose(w, tiles, layers);
         of(&mut table, net).number = cost;
         vias += u64::from(cost);
@@ -822,10 +892,10 @@ fn run(text: &[u8], lent: Lent) -> Result<Returned, Refusal> {
         writer.text(b"total_overflow=");
         writer.number(total, b'\n');
         writer.text(b"max_overflow=");
-        writer.number(u64::from(limit), b'\n');
+        writer.number(u64::from(maximum), b'\n');
         length = writer.at as u64;
     }
-    Ok(Returned { number: 0, line: 0, vias, total, maximum: u64::from(limit), length })
+    Ok(Returned { number: 0, line: 0, vias, total, maximum: u64::from(maximum), length })
 }
 
 /// Plan, or Print where a print buffer is lent.

@@ -66,15 +66,26 @@ impl Grid {
     }
 }
 
+/// By layer from 0: whether it runs north, else east.
+type Dirs = Vec<bool>;
+
 struct Job {
     grid: Grid,
     layers: usize,
+    dirs: Option<Dirs>,
     alpha: u64,
     beta: u64,
     gamma: u64,
     /// By layer from 0, then edge.
     capacity: Vec<Vec<u32>>,
     nets: Vec<Net>,
+}
+
+impl Job {
+    /// Whether an edge may use a layer, from 0.
+    fn open(&self, layer: usize, edge: usize) -> bool {
+        self.dirs.as_ref().is_none_or(|dirs| dirs[layer] == (edge >= self.grid.east()))
+    }
 }
 
 // ---- reading
@@ -112,7 +123,8 @@ fn parts(entry: &[u8]) -> Option<[&[u8]; 3]> {
 }
 
 impl<'a> Reader<'a> {
-    /// The value of the next line, if it has this key. An optional line has another, and is not for this planner: `refused`.
+    /// The value of the next line, if it has this key. An optional line other than `dirs` has another, and is not for this
+    /// planner: `refused`.
     fn value(&mut self, key: &[u8]) -> Result<&'a [u8], Refusal> {
         self.line += 1;
         let rest = &self.text[self.at..];
@@ -133,7 +145,28 @@ impl<'a> Reader<'a> {
         Ok(value)
     }
 
-    fn capacities(&mut self, key: &[u8], count: usize, into: &mut Vec<u32>) -> Result<(), Refusal> {
+    /// The `dirs` line, where the text goes on with its key.
+    fn dirs(&mut self, layers: usize) -> Result<Option<Dirs>, Refusal> {
+        if !self.text[self.at..].starts_with(b"dirs=") {
+            return Ok(None);
+        }
+        let value = self.value(b"dirs=")?;
+        let mut dirs = Vec::new();
+        for entry in entries(value, b',') {
+            match entry {
+                b"h" => dirs.push(false),
+                b"v" => dirs.push(true),
+                _ => return Err(self.refusal(2)),
+            }
+        }
+        if dirs.len() != layers {
+            return Err(self.refusal(2));
+        }
+        Ok(Some(dirs))
+    }
+
+    /// The capacities of a layer one way. It is `closed` if it runs the other way.
+    fn capacities(&mut self, key: &[u8], count: usize, closed: bool, into: &mut Vec<u32>) -> Result<(), Refusal> {
         let value = self.value(key)?;
         let before = into.len();
         let mut inside = true;
@@ -147,6 +180,9 @@ impl<'a> Reader<'a> {
         }
         if !inside {
             return Err(self.refusal(3));
+        }
+        if closed && into[before..].iter().any(|capacity| *capacity > 0) {
+            return Err(self.refusal(12));
         }
         Ok(())
     }
@@ -177,7 +213,7 @@ impl<'a> Reader<'a> {
         Ok(pins)
     }
 
-    fn edges(&mut self, grid: Grid, pins: &[(usize, usize)]) -> Result<Vec<usize>, Refusal> {
+    fn edges(&mut self, grid: Grid, dirs: Option<&Dirs>, pins: &[(usize, usize)]) -> Result<Vec<usize>, Refusal> {
         let value = self.value(b"edges=")?;
         let mut list = Vec::new();
         for entry in entries(value, b';') {
@@ -226,6 +262,10 @@ impl<'a> Reader<'a> {
                 return Err(self.refusal(8));
             }
         }
+        let no_layer = |edge: &usize| dirs.is_some_and(|dirs| !dirs.contains(&(*edge >= grid.east())));
+        if edges.iter().any(no_layer) {
+            return Err(self.refusal(13));
+        }
         Ok(edges)
     }
 }
@@ -239,6 +279,7 @@ fn read(text: &[u8], work: usize, order: usize, answer: usize, print: Option<usi
     let height = reader.number(b"height=", 1, 64)?;
     let layers = reader.number(b"layers=", 2, 8)?;
     let grid = Grid { width, height };
+    let dirs = reader.dirs(layers)?;
     if work < 2 * layers * grid.edges() + 2 * grid.edges() + 32 * grid.tiles() {
         return Err(reader.refusal(9));
     }
@@ -246,10 +287,11 @@ fn read(text: &[u8], work: usize, order: usize, answer: usize, print: Option<usi
     let beta = reader.number(b"beta=", 0, 255)? as u64;
     let gamma = reader.number(b"gamma=", 0, 255)? as u64;
     let mut capacity = Vec::new();
-    for _ in 0..layers {
+    for place in 0..layers {
+        let closed = |north: bool| dirs.as_ref().is_some_and(|dirs| dirs[place] != north);
         let mut layer = Vec::new();
-        reader.capacities(b"east=", grid.east(), &mut layer)?;
-        reader.capacities(b"north=", grid.edges() - grid.east(), &mut layer)?;
+        reader.capacities(b"east=", grid.east(), closed(false), &mut layer)?;
+        reader.capacities(b"north=", grid.edges() - grid.east(), closed(true), &mut layer)?;
         capacity.push(layer);
     }
     let count = reader.number(b"nets=", 0, 4096)?;
@@ -264,7 +306,7 @@ fn read(text: &[u8], work: usize, order: usize, answer: usize, print: Option<usi
             return Err(reader.refusal(4));
         }
         let pins = reader.pins(grid, layers)?;
-        let edges = reader.edges(grid, &pins)?;
+        let edges = reader.edges(grid, dirs.as_ref(), &pins)?;
         total += edges.len();
         nets.push(Net { pins, edges });
     }
@@ -275,7 +317,7 @@ fn read(text: &[u8], work: usize, order: usize, answer: usize, print: Option<usi
     if answer < total || print.is_some_and(|length| length < 256 + 64 * count + 2 * total) {
         return Err(reader.refusal(11));
     }
-    Ok(Job { grid, layers, alpha, beta, gamma, capacity, nets })
+    Ok(Job { grid, layers, dirs, alpha, beta, gamma, capacity, nets })
 }
 
 // ---- the plan
@@ -357,6 +399,17 @@ fn best(table: &[[Best; 9]], step: &Step, above: usize, layers: usize) -> Best {
     best
 }
 
+/// The most overflow of one layer of an edge to the east, and of one to the north: the largest overflow of the flat plan by
+/// the number of layers; with a `dirs` line, of each direction by itself. A direction without a layer has no overflow.
+fn limits(job: &Job, overflow: &[u32]) -> [u32; 2] {
+    let limit =
+        |overflow: &[u32], layers: usize| overflow.iter().copied().max().unwrap_or(0).div_ceil(layers.max(1) as u32);
+    let Some(dirs) = &job.dirs else { return [limit(overflow, job.layers); 2] };
+    let north_layers = dirs.iter().filter(|north| **north).count();
+    let (east, north) = overflow.split_at(job.grid.east());
+    [limit(east, job.layers - north_layers), limit(north, north_layers)]
+}
+
 fn plan(job: &Job, lent: Lent) -> Returned {
     let Lent { order, answer, print, .. } = lent;
     let (grid, layers) = (job.grid, job.layers);
@@ -369,7 +422,8 @@ fn plan(job: &Job, lent: Lent) -> Returned {
     let capacity: Vec<u32> = (0..grid.edges()).map(|edge| job.capacity.iter().map(|layer| layer[edge]).sum()).collect();
     let overflow: Vec<u32> = (0..grid.edges()).map(|edge| demand[edge].saturating_sub(capacity[edge])).collect();
     let total: u64 = overflow.iter().map(|overflow| u64::from(*overflow)).sum();
-    let limit = overflow.iter().copied().max().unwrap_or(0).div_ceil(layers as u32);
+    let limits = limits(job, &overflow);
+    let maximum = limits[0].max(limits[1]);
 
     let mut list: Vec<(u64, usize)> = Vec::new();
     for (place, net) in job.nets.iter().enumerate() {
@@ -397,7 +451,8 @@ fn plan(job: &Job, lent: Lent) -> Returned {
             let edge = steps[at].edge;
             let over = |layer: usize| load[layer][edge].saturating_sub(job.capacity[layer][edge]);
             let sum: u32 = (0..layers).map(over).sum();
-            for layer in 1..=layers {
+            let limit = limits[usize::from(edge >= grid.east())];
+            for layer in (1..=layers).filter(|layer| job.open(layer - 1, edge)) {
                 let after = (load[layer - 1][edge] + 1).saturating_sub(job.capacity[layer - 1][edge]);
                 if after <= limit && sum - over(layer - 1) + after <= overflow[edge] {
                     table[at][layer] = best(&table, &steps[at], layer, layers);
@@ -429,23 +484,23 @@ fn plan(job: &Job, lent: Lent) -> Returned {
     let total_vias: u64 = vias.iter().map(|vias| u64::from(*vias)).sum();
     let mut length = 0;
     if let Some(out) = print {
-        let text = printed(&order[..list.len()], &chosen, &vias, total_vias, total, limit);
+        let text = printed(&order[..list.len()], &chosen, &vias, total_vias, total, maximum);
         out[..text.len()].copy_from_slice(text.as_bytes());
         length = text.len() as u64;
     }
-    Returned { number: 0, line: 0, vias: total_vias, total, maximum: u64::from(limit), length }
+    Returned { number: 0, line: 0, vias: total_vias, total, maximum: u64::from(maximum), length }
 }
 
 fn listed<T: ToString>(numbers: &[T]) -> String {
     numbers.iter().map(|number| number.to_string()).collect::<Vec<_>>().join(",")
 }
 
-fn printed(order: &[Entry], chosen: &[Vec<u8>], vias: &[u32], total_vias: u64, total: u64, limit: u32) -> String {
+fn printed(order: &[Entry], chosen: &[Vec<u8>], vias: &[u32], total_vias: u64, total: u64, maximum: u32) -> String {
     let mut text = format!("order={}\n", listed(&order.iter().map(|entry| entry.net).collect::<Vec<_>>()));
     for (place, layers) in chosen.iter().enumerate() {
         text += &format!("net={}\nvias={}\nlayers={}\n", place + 1, vias[place], listed(layers));
     }
-    text + &format!("total_vias={total_vias}\ntotal_overflow={total}\nmax_overflow={limit}\n")
+    text + &format!("total_vias={total_vias}\ntotal_overflow={total}\nmax_overflow={maximum}\n")
 }
 
 /// Plan, or Print where a print buffer is lent.
@@ -453,7 +508,8 @@ fn printed(order: &[Entry], chosen: &[Vec<u8>], vias: &[u32], total_vias: u64, t
 #[no_mangle]
 pub fn plain_call(text: &[u8], lent: Lent) -> Returned {
     lent.work.fill(0);
-    match read(text, lent.work.len(), lent.order.len(), lent.answer.len(), lent.print.as_ref().map(|print| print.len())) {
+    match read(text, lent.work.len(), lent.order.len(), lent.answer.len(), lent.print.as_ref().map(|print| print.len()))
+    {
         Ok(job) => plan(&job, lent),
         Err(Refusal(number, line)) => refused(text, number, line),
     }

@@ -1,7 +1,8 @@
-"""Texts whose outcome document 01 itself gives, in its bench jobs or by its words on what comes first.
+"""Texts whose outcome document 01 itself gives, in its bench jobs or by its words on what comes first; and, where a request of
+document 02 has landed, those that follow from its words.
 
-They hold tests/second to document 01 and are then checked like all other texts. `said` is what document 01 says of the outcome: a
-refusal as (number, line), or the fields of an accepted outcome that it names.
+They hold tests/second to these documents and are then checked like all other texts. `said` is what they say of the outcome: a
+refusal as (number, line), or the fields of an accepted outcome that they name.
 """
 
 from collections import namedtuple
@@ -13,9 +14,12 @@ Bench = namedtuple("Bench", "name text lent said")
 ROOMY = Lent(100_000, 4_096, 1_000, 1_000)
 
 
-def header_lines(width, height, layers, alpha, beta, gamma, capacities):
-    """The lines before `nets`; `capacities` has the `east` and the `north` list of each layer."""
-    lines = [f"width={width}", f"height={height}", f"layers={layers}", f"alpha={alpha}", f"beta={beta}", f"gamma={gamma}"]
+def header_lines(width, height, layers, alpha, beta, gamma, capacities, dirs=None):
+    """The lines before `nets`; `capacities` has the `east` and the `north` list of each layer, `dirs` the letters, if that line is
+    there."""
+    lines = [f"width={width}", f"height={height}", f"layers={layers}"]
+    lines += [] if dirs is None else [f"dirs={dirs}"]
+    lines += [f"alpha={alpha}", f"beta={beta}", f"gamma={gamma}"]
     return lines + [f"{key}={numbers}" for layer in capacities for key, numbers in zip(("east", "north"), layer)]
 
 
@@ -145,12 +149,63 @@ FIRST_FAULTS = [
     ("one working number short", C1, Lent(107, 2, 3, 390), (9, 3)),
 ]
 
+
+# ---- S-2 of document 02
+
+def directed(text, dirs):
+    """The text with a `dirs` line."""
+    assert text.count(b"\nalpha=") == 1
+    return text.replace(b"\nalpha=", b"\ndirs=" + dirs + b"\nalpha=")
+
+
+def both_ways(dirs, east, north):
+    """Four tiles without tracks; so many nets along an edge to the east and along one to the north, each with a pin on layer 1."""
+    layers = dirs.count(b",") + 1
+    nets = [("0,0,1;1,0,1", "0,0,e")] * east + [("0,0,1;0,1,1", "0,0,n")] * north
+    return directed(text_of(header_lines(2, 2, layers, 0, 0, 0, [("0,0", "0,0")] * layers) + net_lines(*nets)), dirs)
+
+
+def column(dirs, nets):
+    """Two tiles, one above the other, without tracks; each net has a pin on layer 1 and the edge between."""
+    return directed(text_of(header_lines(1, 2, 2, 1, 1, 0, [("", "0")] * 2) + net_lines(*[("0,0,1", "0,0,n")] * nets)), dirs)
+
+
+NO_TRACKS = directed(pair("0", "0", "0,0,2;1,0,2"), b"h,v")
+ONE_WAY = directed(text_of(header_lines(2, 2, 2, 1, 1, 0, [("1,1", "0,0")] * 2) + net_lines(("0,0,1", "0,0,n"))), b"h,h")
+SHORT = Lent(2 * 2 * 2 + 2 * 2 + 32 * 3 - 1, 2, 3, 390)
+
+DIRECTIONS = [
+    ("along the layer of its direction", NO_TRACKS, ROOMY, {"plan": [[1]], "vias": 2, "total": 1, "maximum": 1}),
+    ("two nets there", directed(pair("0", "0", *["0,0,2;1,0,2"] * 2), b"h,v"), ROOMY, {"plan": [[1], [1]], "total": 2, "maximum": 2}),
+    ("no track closes no layer", directed(pair("1", "0", *["0,0,2;1,0,2"] * 2), b"h,h"), ROOMY, {"plan": [[2], [1]], "maximum": 1}),
+    ("two layers and one", both_ways(b"h,h,v", 2, 2), ROOMY, {"plan": [[1], [2], [3], [3]], "total": 4, "maximum": 2}),
+    ("the north does not lift the limit of the east", both_ways(b"h,h,v,v", 2, 8), ROOMY,
+     {"plan": [[1], [2]] + [[3]] * 4 + [[4]] * 4, "maximum": 4}),
+    ("all layers to the north, one column", column(b"v,v", 3), ROOMY, {"plan": [[1], [1], [2]], "total": 3, "maximum": 2}),
+    ("all layers to the east, one column", column(b"h,h", 3), ROOMY, (13, 15)),
+    ("an edge without a layer", ONE_WAY, ROOMY, (13, 15)),
+    ("8 before 13", ONE_WAY.replace(b"pins=0,0,1", b"pins=1,0,1"), ROOMY, (8, 15)),
+    ("13 before 11", ONE_WAY, Lent(100_000, 4, 0, 0), (13, 15)),
+    ("a track on a layer that runs the other way", directed(C1, b"h,v"), ROOMY, (12, 10)),
+    ("3 before 12", directed(replaced(b"east=1,1\nnorth=\nnets", b"east=1,256\nnorth=\nnets"), b"h,v"), ROOMY, (3, 10)),
+    ("2 before 12", directed(replaced(b"east=1,1\nnorth=\nnets", b"east=1\nnorth=\nnets"), b"h,v"), ROOMY, (2, 10)),
+    ("12 before a later line", directed(C1, b"v,h").replace(b"nets=2", b"nets=x"), ROOMY, (12, 8)),
+    ("C1 with directions", directed(C1, b"h,h"), PROGRAM_LENT, {"order": [(2, 3000), (1, 2500)], "text": C1_PRINT}),
+    ("9 after line 4", directed(C1, b"h,h"), SHORT, (9, 4)),
+    ("9 after line 3 where line 4 has another key", directed(C1, b"h,h").replace(b"dirs=", b"dirs"), SHORT, (9, 3)),
+    ("wrong letters before 9", directed(C1, b"h,e"), SHORT, (2, 4)),
+    ("a letter less before 9", directed(C1, b"h"), SHORT, (2, 4)),
+    ("a line without its end before 9", directed(C1, b"h,h").split(b"\nalpha")[0], SHORT, (2, 4)),
+    ("twice", directed(directed(C1, b"h,h"), b"h,h"), ROOMY, (2, 5)),
+    ("behind `alpha`", replaced(b"beta=1", b"dirs=h,h\nbeta=1"), ROOMY, (2, 5)),
+]
+
 BENCH = ([Bench(name, text, PROGRAM_LENT, said) for name, text, said in JOBS]
-         + [Bench(name, text, lent, said) for name, text, lent, said in FIRST_FAULTS])
+         + [Bench(name, text, lent, said) for name, text, lent, said in FIRST_FAULTS + DIRECTIONS])
 
 
 def as_said(bench, result):
-    """Whether an outcome is what document 01 says."""
+    """Whether an outcome is what the documents say."""
     if isinstance(bench.said, tuple):
         return tuple(result) == bench.said
     return hasattr(result, "plan") and all(getattr(result, field) == value for field, value in bench.said.items())

@@ -7,7 +7,7 @@ import random
 import re
 from collections import namedtuple
 
-from bench import BENCH, C1, ROOMY, header_lines, net_lines, text_of
+from bench import BENCH, C1, ROOMY, directed, header_lines, net_lines, text_of
 from second import MOST_BYTES, MOST_INPUT, PROGRAM_LENT, Lent
 
 # `kind` says how the text was made. `text` is the whole text; or, where `length` is a number, the start of any text of that
@@ -79,6 +79,23 @@ def border_cases():
                     yield Case("edge", text_of(start + net_lines((pin, f"{x},{y},{way}"))), ROOMY)
 
 
+# What may stand before `alpha` in a job with two layers: `dirs` lines, well-formed or not, and others that look like one.
+DIRS_LINES = [b"dirs=h,h", b"dirs=h,v", b"dirs=v,h", b"dirs=v,v", b"dirs=", b"dirs=h", b"dirs=h,h,h", b"dirs=h,h,", b"dirs=,h,h", b"dirs=h,,h",
+              b"dirs=hh", b"dirs=h;h", b"dirs=H,H", b"dirs=h,V", b"dirs=h,e", b"dirs=n,h", b"dirs=1,1", b"dirs=0h,h", b"dirs= h,h",
+              b"dirs=h,h ", b"dirs=h, h", b"dirs=h,h\r", b"dirs==h,h", b"dirs=h,h\x00", b"dirsh,h", b"dirs", b"dirs h,h", b"dirs:h,h",
+              b"dir=h,h", b"dirss=h,h", b"Dirs=h,h", b"DIRS=h,h", b" dirs=h,h", b"", b"dirs=h,h\ndirs=h,h", b"dirs=h,h\n", b"dirs=h,h\nalpha=1"]
+
+
+def dirs_cases():
+    """C1 with each of these lines, and its start up to each byte of a `dirs` line; with enough working numbers, and one short."""
+    texts = [C1.replace(b"alpha", line + b"\nalpha", 1) for line in DIRS_LINES]
+    start = directed(C1, b"h,v").split(b"alpha")[0]
+    texts += [start[:size] for size in range(start.index(b"dirs"), len(start) + 1)]
+    for text in texts:
+        for lent in (ROOMY, Lent(107, 2, 3, 390)):
+            yield Case("dirs", text, lent)
+
+
 # ---- small random jobs
 
 def working_need(width, height, layers):
@@ -88,21 +105,33 @@ def working_need(width, height, layers):
 
 
 class Draft:
-    """A job while it is made: its numbers, and for each net its pins (x, y, layer) and its edges (x, y, way)."""
+    """A job while it is made: its numbers, the letters of its `dirs` line or None, and for each net its pins (x, y, layer) and its
+    edges (x, y, way)."""
 
-    def __init__(self, width, height, layers, weights, nets):
-        self.width, self.height, self.layers, self.weights, self.nets = width, height, layers, weights, nets
+    def __init__(self, width, height, layers, dirs, weights, nets):
+        self.width, self.height, self.layers, self.dirs, self.weights, self.nets = width, height, layers, dirs, weights, nets
         self.east = [[0] * ((width - 1) * height) for _ in range(layers)]
         self.north = [[0] * (width * (height - 1)) for _ in range(layers)]
 
     def lines(self):
         """The lines of the text, without their byte 10."""
         capacities = [(entry(east), entry(north)) for east, north in zip(self.east, self.north)]
-        return (header_lines(self.width, self.height, self.layers, *self.weights, capacities)
+        dirs = None if self.dirs is None else entry(self.dirs)
+        return (header_lines(self.width, self.height, self.layers, *self.weights, capacities, dirs)
                 + net_lines(*[(entries(pins), entries(edges)) for pins, edges in self.nets]))
 
     def text(self):
         return text_of(self.lines())
+
+    def closed(self):
+        """The capacities, list by list, of layers that run the other way."""
+        return [numbers for across, lists in (("v", self.east), ("h", self.north))
+                for letter, numbers in zip(self.dirs or [], lists) if letter == across]
+
+    def close(self):
+        """Takes all tracks off the layers that run the other way."""
+        for numbers in self.closed():
+            numbers[:] = [0] * len(numbers)
 
     def need(self):
         """The lent lengths that are just enough."""
@@ -133,10 +162,22 @@ def grid_edges(width, height):
     return edges
 
 
-def random_tree(rng, width, height, size):
-    """The tiles and the edges of a tree of at most `size` edges, grown from a random tile."""
+def random_dirs(rng, layers):
+    """The letters of a `dirs` line, mostly both of them; in half of all jobs none, for there is no such line."""
+    some = [rng.choice("hv") for _ in range(layers)]
+    mixed = rng.sample(["h", "v", *some[2:]], layers)
+    return rng.choice([None] * 6 + [mixed] * 4 + [some, some[:1] * layers])
+
+
+def ways_of(dirs):
+    """The ways of edges that some layer runs."""
+    return "en" if dirs is None else [way for way, letter in zip("en", "hv") if letter in dirs]
+
+
+def random_tree(rng, width, height, size, ways):
+    """The tiles and the edges of a tree of at most `size` edges, grown from a random tile along these ways."""
     tiles, edges = [(rng.randrange(width), rng.randrange(height))], []
-    ends = grid_edges(width, height)
+    ends = {edge: tiles for edge, tiles in grid_edges(width, height).items() if edge[2] in ways}
     while len(edges) < size:
         open_edges = [edge for edge, (one, other) in ends.items() if (one in tiles) != (other in tiles)]
         if not open_edges:
@@ -147,9 +188,9 @@ def random_tree(rng, width, height, size):
     return tiles, edges
 
 
-def random_net(rng, width, height, layers):
-    """A net: a tree with pins in some of its tiles, the entries of both lines in random order."""
-    tiles, edges = random_tree(rng, width, height, rng.randint(0, MOST_EDGES[layers]))
+def random_net(rng, width, height, layers, ways):
+    """A net: a tree along these ways with pins in some of its tiles, the entries of both lines in random order."""
+    tiles, edges = random_tree(rng, width, height, rng.randint(0, MOST_EDGES[layers]), ways)
     pins = {(*rng.choice(tiles), rng.randint(1, layers)) for _ in range(rng.randint(1, 5))}
     return rng.sample(sorted(pins), len(pins)), rng.sample(edges, len(edges))
 
@@ -161,10 +202,12 @@ def random_weight(rng):
 
 def draft_on(rng, width, height, layers, net_count, most):
     """A job with so many nets on such a grid; its capacities are at most `most`, which is small, so that edges overflow."""
-    nets = [random_net(rng, width, height, layers) for _ in range(net_count)]
-    draft = Draft(width, height, layers, [random_weight(rng) for _ in range(3)], nets)
+    dirs = random_dirs(rng, layers)
+    nets = [random_net(rng, width, height, layers, ways_of(dirs)) for _ in range(net_count)]
+    draft = Draft(width, height, layers, dirs, [random_weight(rng) for _ in range(3)], nets)
     for capacities in draft.east + draft.north:
         capacities[:] = [rng.randint(0, most) for _ in capacities]
+    draft.close()
     return draft
 
 
@@ -227,7 +270,7 @@ def tree(rng):
     """One or two nets of many edges, whose walk has branches at more than one tile."""
     draft = draft_on(rng, rng.randint(3, 4), 3, 2, rng.randint(1, 2), rng.choice([0, 1, 2]))
     for net in draft.nets:
-        net[1][:] = random_tree(rng, draft.width, draft.height, MOST_EDGES[2])[1]
+        net[1][:] = random_tree(rng, draft.width, draft.height, MOST_EDGES[2], ways_of(draft.dirs))[1]
         x, y, _ = net[1][0]
         net[0][:] = [(x, y, rng.randint(1, 2))]
     return draft.text(), enough(rng, draft)
@@ -264,7 +307,7 @@ def changed_byte(rng):
     draft = random_draft(rng)
     text = bytearray(draft.text())
     at = rng.randrange(len(text))
-    byte = rng.choice([rng.randrange(256), text[at] ^ (1 << rng.randrange(8)), rng.choice(b"0123456789=,;en\n\r ")])
+    byte = rng.choice([rng.randrange(256), text[at] ^ (1 << rng.randrange(8)), rng.choice(b"0123456789=,;enhv\n\r ")])
     size, new = rng.choice([(1, [byte]), (1, [byte]), (0, [byte]), (1, [])])
     text[at:at + size] = new
     return bytes(text), program_or_plan(rng)
@@ -316,6 +359,41 @@ def changed_capacities(rng):
     at = rng.randrange(len(capacities))
     capacities[at:at + 1] = rng.choice([[255], [255], [256], [256], [99_999], [], [0, 0], [""], ["01"], [256, 0]])
     return draft.text(), enough(rng, draft)
+
+
+def changed_dirs(rng):
+    """Another line in the place of `dirs`, one letter changed, or a `dirs` line anywhere."""
+    draft = random_draft(rng)
+    lines = draft.lines()
+    letters = draft.dirs or random_dirs(rng, draft.layers) or ["h"] * draft.layers
+    wrong = [*letters]
+    wrong[rng.randrange(len(wrong))] = rng.choice(["", "H", "V", "e", "n", "x", "0", "hv", " h", "h;v"])
+    line = rng.choice(["dirs=" + entry(rng.choice([letters, letters[1:], [*letters, "h"], wrong, wrong])),
+                       "dirs=" + ";".join(letters), "dirs=" + "".join(letters), "dirs=" + entry(letters).upper(), "dirs" + entry(letters)])
+    at = rng.choice([3, 3, 3, rng.randrange(len(lines) + 1)])
+    lines[at:at + (draft.dirs is not None and rng.random() < 0.8)] = [line]
+    return text_of(lines), rng.choice([enough(rng, draft), short(rng, draft)])
+
+
+def across(rng):
+    """A track on a layer that runs the other way, now and then a number beyond the range or of wrong form behind it."""
+    draft = draft_with(rng, lambda draft: any(draft.closed()))
+    numbers = rng.choice([numbers for numbers in draft.closed() if numbers])
+    numbers[rng.randrange(len(numbers))] = rng.choice([1, 1, 1, 2, 255, 256])
+    numbers[-1] = rng.choice([numbers[-1]] * 6 + [256, "01"])
+    return draft.text(), rng.choice([enough(rng, draft), short(rng, draft)])
+
+
+def no_layer(rng):
+    """All layers run one way, and some edges the other; the net may also not hang together, and lent lengths may be short."""
+    draft = draft_with(rng, lambda draft: draft.need().answer > 0)
+    edges = rng.choice([edges for _, edges in draft.nets if edges])
+    way = rng.choice(edges)[2]
+    draft.dirs = [{"e": "v", "n": "h"}[way]] * draft.layers
+    draft.close()
+    if rng.random() < 0.2:
+        edges.remove(rng.choice(edges))
+    return draft.text(), rng.choice([enough(rng, draft), short(rng, draft)])
 
 
 def out_of_turn(rng):
@@ -409,15 +487,15 @@ def text_after(rng):
 
 def two_faults(rng):
     """Two things wrong at once, and perhaps short lent lengths: what comes first decides."""
-    text, lent = rng.choice([changed_pins, changed_edges, apart, ring, out_of_turn, changed_capacities])(rng)
+    text, lent = rng.choice([changed_pins, changed_edges, apart, ring, out_of_turn, changed_capacities, across, no_layer])(rng)
     lent = rng.choice([lent, lent, Lent(0, 0, 0, 0), Lent(100_000, 0, 0, 0), Lent(100_000, 9, 0, 0)])
     return with_other_number(rng, text.decode()).encode(), lent
 
 
 # The ways, taken in turn. Plain jobs are many, since their order lists, plans and prints are compared.
 WAYS = [plain, cut, crowd, short_lent, changed_byte, program_job, changed_line, ring, tree, changed_number, apart, crowd,
-        range_end, out_of_turn, program_job, changed_pins, short_at_the_end, plain, changed_edges, apart, tree, text_after,
-        changed_capacities, plain, two_faults, ring]
+        changed_dirs, range_end, out_of_turn, program_job, changed_pins, short_at_the_end, across, plain, changed_edges, apart,
+        tree, text_after, changed_capacities, no_layer, plain, two_faults, ring, crowd]
 
 
 def random_cases(seed, count):
@@ -430,5 +508,5 @@ def random_cases(seed, count):
 
 def all_cases(seed, count):
     """The fixed texts, and so many random ones."""
-    return [*bench_cases(), *long_cases(), *cut_cases(), *line_cases(), *end_cases(), *border_cases(),
+    return [*bench_cases(), *long_cases(), *cut_cases(), *line_cases(), *end_cases(), *border_cases(), *dirs_cases(),
             *random_cases(seed, count)]

@@ -25,7 +25,7 @@ Refusal = namedtuple("Refusal", "number line")
 Accepted = namedtuple("Accepted", "order plan vias total maximum text walks brute")
 
 # The numbers in the table of refusals.
-NUMBERS = range(1, 12)
+NUMBERS = range(1, 14)
 
 # "text above 1,048,576 bytes"
 MOST_BYTES = 1_048_576

@@ -32,7 +32,7 @@ use Rattle.sort.specs.Placing.{order-count, sorted-order, turns-listed}
 use Rattle.sort.specs.Sorted.{Arranged}
 use Rattle.sort.specs.declared.Entry.{Entry}
 use Rattle.text.specs.Refusals.{numberOf, lineOf}
-use Rattle.theory.specs.links.Meets.{plan-call, print-call, plan-total-is, plan-maximum-is, plan-meets-demand3, print-meets-demand3}
+use Rattle.theory.specs.links.Meets.{plan-call, print-call, plan-total-is, plan-maximum-both, plan-meets-demand3, print-meets-demand3}
 use Rattle.theory.specs.links.Reading.{Accepted, accepted}
 use Rattle.theory.specs.links.Room.{plan-long}
 use Rattle.theory.specs.links.Stretches.{cut-whole}
@@ -125,7 +125,7 @@ module _ (s work work₁ work′ : List ℕ) (ys os : List Entry) (table table�
       let turn = turned s lentPlan work₁ table ys os long refl wide h k table′ made (length answer) (omega (arith, acc .answer-fits)) in
       let done = closed .made lentPlan j turn in
       let total : closed .totals .total ≡ totalOverflow j (plan j) = done .total-is ∙ sym (plan-total-is lentPlan s j (k .place) (k .is)) in
-      let most : closed .totals .maximum ≡ maxOverflow j (plan j) = done .maximum-is ∙ sym (plan-maximum-is lentPlan s j (k .place) (k .is)) in
+      let most : closed .totals .maximum ≡ maxOverflow j (plan j) = done .maximum-is ∙ sym (plan-maximum-both lentPlan s j (k .place) (k .is)) in
       let entries = order-made s lentPlan work₁ table ys os long refl wide h k table′ made in
       let layers = answer-made lentPlan j acc answer answer′ (closed .table′) (closed .totals) done in
       ap {B = PlannedBy} (λ (x : Planned). record { returned = returnedOf x; buffers = buffersOf work′ os answer′ }) (closed .is)
@@ -174,7 +174,7 @@ module _ (s work work₁ work′ : List ℕ) (ys os : List Entry) (table table�
       let done = closed .made lentAll j turn in
       let told = closed .told lentAll j turn (print-room s lentAll work₁ table ys os long refl wide h k (length out) refl) in
       let total : closed .totals .total ≡ totalOverflow j (plan j) = done .total-is ∙ sym (plan-total-is lentAll s j (k .place) (k .is)) in
-      let most : closed .totals .maximum ≡ maxOverflow j (plan j) = done .maximum-is ∙ sym (plan-maximum-is lentAll s j (k .place) (k .is)) in
+      let most : closed .totals .maximum ≡ maxOverflow j (plan j) = done .maximum-is ∙ sym (plan-maximum-both lentAll s j (k .place) (k .is)) in
       let entries = order-made s lentAll work₁ table ys os long refl wide h k table′ made in
       let layers = answer-made lentAll j acc answer answer′ (closed .table′) (closed .totals) done in
       ap {B = PrintedBy} (λ (x : Printed). record { returned = returnedOf (planOf x); length = sizeOf x; buffers = buffersOf work′ os answer′; print = out′ }) (closed .is)

@@ -15,8 +15,9 @@ use Rattle.text.specs.declared.Numeral.the-variants.{Value, Malformed}
 use Rattle.lines.specs.declared.Listed.{Listed}
 use Rattle.lines.specs.Digits.{ended-within}
 use Rattle.lines.specs.Told.{listIn}
+use Rattle.lines.specs.Keyed.{ender}
 use Rattle.capacities.specs.declared.Run.{Run}
-use Rattle.capacities.specs.Entries.{ender, listAt, finish}
+use Rattle.capacities.specs.Entries.{listAt, finish}
 use Rattle.capacities.specs.Ran.{onward, Stands, Ran}
 use Rattle.capacities.specs.Spread.{kept, Room}
 use Rattle.capacities.specs.Told.{listTold, answerOf}

@@ -4,4 +4,5 @@ mod Keys
 mod Steps
 mod Going
 mod Spreads
+mod Judged
 mod Layers

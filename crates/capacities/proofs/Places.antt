@@ -20,7 +20,8 @@ use Rattle.scan.specs.Lines.{Some, split-some, undigits}
 use Rattle.scan.specs.Places.{after}
 use Rattle.lines.specs.Digits.{past, ended-by, head-at, tail-at}
 use Rattle.lines.specs.Told.{mapped}
-use Rattle.capacities.specs.Entries.{Numbered, consTo, ender, listAt, listLine, finish}
+use Rattle.lines.specs.Keyed.{ender}
+use Rattle.capacities.specs.Entries.{Numbered, consTo, listAt, listLine, finish}
 use Rattle.capacities.specs.Spread.{spread}
 use Rattle.capacities.proofs.Runs.{withRest, numbersBy, numbersOf, consNumber, numbersFrom, numbers-run}
 

@@ -41,7 +41,7 @@ module _ (k : ℕ) where
       ∙ drop-set-lt n w to v (omega (arith, suc-mul (length vs) k))
 
   -- the list is read again
-  spread-column : (w : List ℕ) (to : ℕ) (vs : List ℕ) → 1 ≤ k → to + length vs * k < length w + k → column k (spread k w to vs) to (length vs) ≡ vs
+  pub spread-column : (w : List ℕ) (to : ℕ) (vs : List ℕ) → 1 ≤ k → to + length vs * k < length w + k → column k (spread k w to vs) to (length vs) ≡ vs
   spread-column w to [] one h = refl
   spread-column w to (v ∷ vs) one h = rw (first, spread-column (set w to v) (to + k) vs one room)
     where

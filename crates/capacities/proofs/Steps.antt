@@ -18,7 +18,8 @@ use Rattle.text.specs.Entries.{endedAt}
 use Rattle.text.specs.declared.Numeral.the-variants.{Value, Malformed}
 use Rattle.lines.specs.Told.{listIn}
 use Rattle.lines.specs.declared.Listed.{Listed}
-use Rattle.capacities.specs.Entries.{Numbered, consTo, ender, listAt, listLine, finish}
+use Rattle.lines.specs.Keyed.{ender}
+use Rattle.capacities.specs.Entries.{Numbered, consTo, listAt, listLine, finish}
 use Rattle.capacities.specs.Spread.{spread, kept, Room}
 use Rattle.capacities.specs.Told.{listTold, answerOf}
 
@@ -32,6 +33,11 @@ module _ (k to size : ℕ) where
   pub room-next : (n : ℕ) → 0 < n → Room k to n size → Room k (to + k) (n - 1) size
   room-next zero h r = absurd (not-suc-le-zero h)
   room-next (suc n) h r = rw sub-one (record { apart = r .apart; room = omega (arith, r .room, suc-mul n k); small = omega (arith, r .small, suc-mul n k) })
+
+  -- and so does the place after it
+  pub room-small : (n : ℕ) → 0 < n → Room k to n size → to + k ≤ 100000
+  room-small zero h r = absurd (not-suc-le-zero h)
+  room-small (suc n) h r = omega (arith, r .small, suc-mul n k)
 
 pub kept-length : (w : List ℕ) (to v : ℕ) → length (kept w to v) ≡ length w
 kept-length w to v = go (leb v mostCapacity)

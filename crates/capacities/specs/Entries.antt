@@ -9,6 +9,7 @@ use lib.ListN.{drop, getD}
 use Rattle.model.specs.Limits.{mostCapacity}
 use Rattle.model.specs.Lists.{all}
 use Rattle.model.specs.Read.{Result, refused, found}
+use Rattle.lines.specs.Keyed.{ender}
 use Rattle.text.specs.Entries.{onNumber, endedAt}
 use Rattle.capacities.specs.Spread.{spread}
 
@@ -19,11 +20,6 @@ Numbered = Option (List ℕ × List ℕ)
 abbrev pub consTo : ℕ → Numbered → Numbered
 consTo v none = none
 consTo v (some c) = some (v ∷ c .0, c .1)
-
--- the byte behind a number after which n more come: a comma, and byte 10 behind the last
-abbrev pub ender : ℕ → ℕ
-ender zero = 10
-ender (suc n) = 44
 
 -- n numbers, each with the byte behind it
 abbrev pub listAt : ℕ → List ℕ → ℕ → Numbered

@@ -12,12 +12,14 @@ ghost use lib.Dec.{leb};
 ghost use lib.ListN.{length};
 ghost use Rattle.model.specs.Limits.{mostCapacity};
 ghost use Rattle.model.specs.Read.{capacityLines};
+ghost use Rattle.layout.specs.Dirs.{dirsOf};
 ghost use Rattle.layout.specs.Shapes.{Shaped};
 ghost use Rattle.text.specs.Entries.{Short};
 ghost use Rattle.text.specs.Refusals.{placeOf};
 ghost use Rattle.lines.specs.Keyed.{oneLine};
 ghost use Rattle.lines.specs.Told.{listIn, mapped};
-ghost use Rattle.capacities.specs.Reads.{capacityLineBy, layerIn};
+ghost use Rattle.capacities.specs.Reads.{capacityLineBy, zeros, judgedLineBy, layerIn};
+ghost use Rattle.capacities.specs.Capacities.{column};
 ghost use Rattle.capacities.specs.Spread.{kept, spread, Room};
 ghost use Rattle.capacities.specs.Entries.{listAt, listLine, finish};
 ghost use Rattle.capacities.specs.Told.{listTold, answerOf, capacitiesTold, beyondOf};
@@ -192,6 +194,52 @@ fn capacity_line<'a>(s: &'a [u8], c: Cursor, key: &'a [u8], w: &mut [u32], to: C
     list(s, o.place, w, to)
 }
 
+// Whether a column holds nothing but 0.
+fn all_zero(w: &[u32], of: Column) -> bool
+    requires { ⌜ Room (of .k) (of .first) (of .count) (length (now w)) ⌝ }
+    ensures { λ r. ⌜ r ≡ zeros (column (of .k) (now (w .entry)) (of .first) (of .count)) ⌝ }
+{
+    let mut at = of.first;
+    let mut left = of.count;
+    while 0 < left {
+        if w[at] != 0 {
+            return false;
+        }
+        at += of.k;
+        left -= 1;
+    }
+    true
+}
+
+// A line of capacities, and whether its layer runs the way of its edges: where it does not, nothing but 0 may stand there.
+fn judged_line<'a>(
+    s: &'a [u8],
+    c: Cursor,
+    key: &'a [u8],
+    w: &mut [u32],
+    to: Column,
+    along: bool,
+) -> Listed
+    requires { ⌜ (c .at ≤ length (now s)) × (c .line < 1048576) × (oneLine (now key) ≡ true) ⌝ }
+    requires { ⌜ Room (to .k) (to .first) (to .count) (length (now w)) ⌝ }
+    ensures { λ r. ⌜ listTold (now (s .entry)) (now (w .exit)) r ≡ mapped (spread (to .k) (now (w .entry)) (to .first)) (judgedLineBy (now (key .entry)) (to .count) along (placeOf (now (s .entry)) c)) ⌝ }
+    ensures { λ r. ⌜ listIn (length (now (s .entry))) (c .line + 1) r ⌝ }
+    ensures { λ _. ⌜ length (now (w .exit)) ≡ length (now (w .entry)) ⌝ }
+{
+    match capacity_line(s, c, key, w, to) {
+        Listed::Refused(r) => Listed::Refused(r),
+        Listed::Next(d) => {
+            if along {
+                return Listed::Next(d);
+            }
+            if all_zero(w, to) {
+                return Listed::Next(d);
+            }
+            Listed::Refused(Refusal::Line(Fault::Closed, d.line))
+        }
+    }
+}
+
 // ---- the layers
 
 // Both capacity lines of one layer, 0 being the bottom one: edge e's capacity is stored at e * K + layer.
@@ -199,16 +247,19 @@ fn layer_lines(s: &[u8], c: Cursor, w: &mut [u32], g: Shape, layer: usize) -> Li
     requires { ⌜ (c .at ≤ length (now s)) × (c .line < 100) ⌝ }
     requires { ⌜ Shaped g ⌝ }
     requires { ⌜ (layer < g .k) × (g .k * g .e ≤ length (now w)) ⌝ }
-    ensures { λ r. ⌜ listTold (now (s .entry)) (now (w .exit)) r ≡ mapped (spread (g .k) (now (w .entry)) layer) (layerIn (g .w) (g .h) (placeOf (now (s .entry)) c)) ⌝ }
+    ensures { λ r. ⌜ listTold (now (s .entry)) (now (w .exit)) r ≡ mapped (spread (g .k) (now (w .entry)) layer) (layerIn (g .w) (g .h) (dirsOf (g .k) (g .dirs)) (layer + 1) (placeOf (now (s .entry)) c)) ⌝ }
     ensures { λ r. ⌜ listIn (length (now (s .entry))) (c .line + 2) r ⌝ }
     ensures { λ _. ⌜ length (now (w .exit)) ≡ length (now (w .entry)) ⌝ }
 {
+    let dirs = g.dirs;
+    let eastward = layout::runs(dirs, 0, layer);
+    let northward = layout::runs(dirs, 1, layer);
     let east = Column {
         first: layer,
         k: g.k,
         count: g.east,
     };
-    match capacity_line(s, c, b"east=", w, east) {
+    match judged_line(s, c, b"east=", w, east, eastward) {
         Listed::Refused(r) => Listed::Refused(r),
         Listed::Next(d) => {
             let north = Column {
@@ -216,7 +267,7 @@ fn layer_lines(s: &[u8], c: Cursor, w: &mut [u32], g: Shape, layer: usize) -> Li
                 k: g.k,
                 count: g.e - g.east,
             };
-            capacity_line(s, d, b"north=", w, north)
+            judged_line(s, d, b"north=", w, north, northward)
         }
     }
 }
@@ -226,7 +277,7 @@ pub fn all_layers(s: &[u8], from: Cursor, w: &mut [u32], g: Shape) -> Listed
     requires { ⌜ (from .at ≤ length (now s)) × (from .line < 50) ⌝ }
     requires { ⌜ Shaped g ⌝ }
     requires { ⌜ g .k * g .e ≤ length (now w) ⌝ }
-    ensures { λ r. ⌜ capacitiesTold (now (s .entry)) g (now (w .exit)) r ≡ capacityLines (g .w) (g .h) (g .k) (placeOf (now (s .entry)) from) ⌝ }
+    ensures { λ r. ⌜ capacitiesTold (now (s .entry)) g (now (w .exit)) r ≡ capacityLines (g .w) (g .h) (dirsOf (g .k) (g .dirs)) 1 (g .k) (placeOf (now (s .entry)) from) ⌝ }
     ensures { λ r. ⌜ beyondOf g (now (w .entry)) (now (w .exit)) r ⌝ }
     ensures { λ r. ⌜ listIn (length (now (s .entry))) (from .line + 2 * g .k) r ⌝ }
     ensures { λ _. ⌜ length (now (w .exit)) ≡ length (now (w .entry)) ⌝ }

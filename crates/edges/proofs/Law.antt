@@ -7,12 +7,12 @@ use mathlib.Core.Path.{_≡_, refl, sym, ap, _∙_}
 use Prim.Native.Nat.{ℕ, suc, _+_, _≤_}
 use native.Mathlib.Omega.{arith}
 use lib.Dec.{eqb}
-use lib.ListN.{length, drop, getD, drop-of-length-le}
+use lib.ListN.{length, drop, getD, drop-of-length-le, length-map}
 use Rattle.layout.specs.Shapes.{sizesOf}
 use Rattle.layout.specs.declared.Shape.{Shape}
 use Rattle.model.specs.Job.{Pin}
 use Rattle.model.specs.Lists.{all, twice}
-use Rattle.model.specs.Read.{Place, Result, refused, found, Reading as Reads, next, _>>=_, _>>_, give, form, need, line, Sizes, Triple, edgeEntries, edgeInside, edgeAt, edgesLine}
+use Rattle.model.specs.Read.{Place, Result, refused, found, Reading as Reads, next, _>>=_, _>>_, give, form, need, line, Sizes, Triple, edgeEntries, edgeInside, edgeAt, hasLayer, edgesLine}
 use Rattle.model.specs.Text.{bytes, cutLine, behind}
 use Rattle.model.specs.Tree.{ring, joined}
 use Rattle.scan.specs.Lines.{Lined}
@@ -23,10 +23,13 @@ use Rattle.lines.specs.Reads.{openedOf}
 use Rattle.lines.specs.declared.Opened.{Opened}
 use Rattle.text.specs.Refusals.{placeOf}
 use Rattle.text.specs.declared.Cursor.{Cursor}
-use Rattle.text.specs.declared.Fault.the-variants.{Form}
+use Rattle.text.specs.declared.Fault.the-variants.{Form, NoLayer}
+use Rattle.text.specs.declared.Refusal.{Refusal}
 use Rattle.text.specs.declared.Refusal.the-variants.{Line as OnLine}
-use Rattle.edges.specs.Line.{judgedLine, verdictBy, EntriesRead, LineRead}
-use Rattle.edges.specs.Reading.{Reading}
+use Rattle.edges.specs.Line.{judgedLine, verdictBy, EntriesRead, JoinedFound, JoinedRead, LineRead}
+use Rattle.edges.specs.Reading.{Reading, edgesOn}
+use Rattle.edges.specs.Served.{EntriesAt}
+use Rattle.edges.specs.declared.Edges.{Edges}
 use Rattle.edges.specs.declared.EdgesRead.{EdgesRead}
 use Rattle.edges.specs.declared.EdgesRead.the-variants.{Line, Refused}
 use Rattle.edges.specs.declared.Judged.the-variants.{Fine}
@@ -39,6 +42,12 @@ module _ (z : Sizes) (ps : List Pin) where
   abbrev H : ℕ
   H = z .height
 
+  -- the last test
+  abbrev layered : List ℕ → Reads (List ℕ)
+  layered edges = do
+    need 13 (all (hasLayer z) edges)
+    give edges
+
   -- the tests after form and range
   abbrev tested : List Triple → Reads (List ℕ)
   tested ts = do
@@ -46,7 +55,7 @@ module _ (z : Sizes) (ps : List Pin) where
     need 6 (not (twice eqb edges))
     need 7 (not (ring W H edges))
     need 8 (joined W H ps edges)
-    give edges
+    layered edges
 
   ranged-then : (p : Place) → edgesLine z ps p ≡ next (edgesRanged W H p) tested
   unfolding edgesLine edgesRanged
@@ -65,7 +74,7 @@ module _ (z : Sizes) (ps : List Pin) where
       go (refused n l) = refl
       go (found v q) = read (edgeEntries v) q
 
-  judged-then : (l : ℕ) (r : Lined) → next (ranged W H l r) tested ≡ judgedLine W H ps l r
+  judged-then : (l : ℕ) (r : Lined) → next (ranged W H l r) tested ≡ next (judgedLine W H ps l r) layered
   judged-then l none = refl
   judged-then l (some c) = go (all (edgeInside W H) (c .0))
     where
@@ -75,16 +84,24 @@ module _ (z : Sizes) (ps : List Pin) where
       place : Place
       place = record { line = l; rest = c .1 }
 
-      tests : (a b d : Bool) → next (need 6 (not a) place) (λ u. _>>_ (need 7 (not b)) (_>>_ (need 8 d) (give edges)))
-          ≡ cond a (refused 6 l) (cond b (refused 7 l) (cond d (found edges place) (refused 8 l)))
+      tests : (a b d : Bool) → next (need 6 (not a) place) (λ u. _>>_ (need 7 (not b)) (_>>_ (need 8 d) (layered edges)))
+          ≡ next (cond a (refused 6 l) (cond b (refused 7 l) (cond d (found edges place) (refused 8 l)))) layered
       tests true b d = refl
       tests false true d = refl
       tests false false true = refl
       tests false false false = refl
 
       go : (p : Bool) → next (cond p (found (c .0) place) (refused 3 l)) tested
-          ≡ cond p (cond (twice eqb edges) (refused 6 l) (cond (ring W H edges) (refused 7 l) (cond (joined W H ps edges) (found edges place) (refused 8 l)))) (refused 3 l)
+          ≡ next (cond p (cond (twice eqb edges) (refused 6 l) (cond (ring W H edges) (refused 7 l) (cond (joined W H ps edges) (found edges place) (refused 8 l)))) (refused 3 l)) layered
       go true = tests (twice eqb edges) (ring W H edges) (joined W H ps edges)
+      go false = refl
+
+  -- what it says of the edges of a line that passed the others
+  layered-then : (edges : List ℕ) (p : Place) → layered edges p ≡ cond (all (hasLayer z) edges) (found edges p) (refused 13 (p .line))
+  layered-then edges p = go (all (hasLayer z) edges)
+    where
+      go : (b : Bool) → next (need 13 b p) (λ u. give edges) ≡ cond b (found edges p) (refused 13 (p .line))
+      go true = refl
       go false = refl
 
   -- the line that was opened at c
@@ -95,7 +112,7 @@ module _ (z : Sizes) (ps : List Pin) where
     line-other : o .there ≡ false → edgesLine z ps (placeOf s c) ≡ refused 2 (o .place .line)
     line-other t = reads ∙ key-other s c (bytes "edges=") o e (λ n u. next (edgesKey W H n u) tested) t
 
-    line-there : o .there ≡ true → edgesLine z ps (placeOf s c) ≡ judgedLine W H ps (o .place .line) (edgesCut (cutLine (drop (o .place .at) s)))
+    line-there : o .there ≡ true → edgesLine z ps (placeOf s c) ≡ next (judgedLine W H ps (o .place .line) (edgesCut (cutLine (drop (o .place .at) s)))) layered
     line-there t = reads ∙ key-there s c (bytes "edges=") o e (λ n u. next (edgesKey W H n u) tested) t ∙ judged-then (o .place .line) (edgesCut (cutLine (drop (o .place .at) s)))
 
 -- ---- the value, from c on
@@ -120,11 +137,11 @@ module _ (g : Shape) (n : ℕ) (s : List ℕ) (c : Cursor) (ps : List Pin) (w₀
 -- ---- the line
 
 module _ (g : Shape) (n : ℕ) (s : List ℕ) (c : Cursor) (o : Opened) (e : o ≡ openedOf s c (bytes "edges=")) (ps : List Pin) (w₀ w : List ℕ) where
-  pub read-other : o .there ≡ false → LineRead g n s c ps w₀ w (Refused (OnLine Form (o .place .line)))
+  pub read-other : o .there ≡ false → JoinedRead g n s c ps w₀ w (Refused (OnLine Form (o .place .line)))
   read-other t = line-other (sizesOf g) ps s c o e t
 
-  pub read-there : c .at ≤ length s → o .there ≡ true → (r : EdgesRead) → EntriesRead g n s (o .place) ps w₀ w (edgesCut (cutLine (drop (o .place .at) s))) r → LineRead g n s c ps w₀ w r
-  read-there h t (Refused f) k = line-there (sizesOf g) ps s c o e t ∙ k
+  pub read-there : c .at ≤ length s → o .there ≡ true → (r : EdgesRead) → EntriesRead g n s (o .place) ps w₀ w (edgesCut (cutLine (drop (o .place .at) s))) r → JoinedRead g n s c ps w₀ w r
+  read-there h t (Refused f) k = line-there (sizesOf g) ps s c o e t ∙ ap (λ (r : Result (List ℕ)). next r (layered (sizesOf g) ps)) k
   read-there h t (Line i d) k = record {
     from-in = omega (arith, k .0, place-within s c (bytes "edges=") o e h t);
     line = record {
@@ -138,5 +155,45 @@ module _ (g : Shape) (n : ℕ) (s : List ℕ) (c : Cursor) (o : Opened) (e : o �
       after = record { place = k .1 .after .place; lines = k .1 .after .lines ∙ ap (λ (x : Opened). x .place .line) e };
       reading = k .1 .reading;
     };
-    is = line-there (sizesOf g) ps s c o e t ∙ rw (k .1 .text, k .1 .inside, k .1 .once, k .1 .no-ring, k .1 .reached, k .1 .after .lines);
+    left = line-there (sizesOf g) ps s c o e t
+        ∙ ap (λ (r : Result (List ℕ)). next r (layered (sizesOf g) ps)) judged
+        ∙ layered-then (sizesOf g) ps (edgesOn g (k .1 .entries)) (placeOf s d);
   }
+    where
+      judged : judgedLine (g .w) (g .h) ps (o .place .line) (edgesCut (cutLine (drop (o .place .at) s))) ≡ found (edgesOn g (k .1 .entries)) (placeOf s d)
+      judged = rw (k .1 .text, k .1 .inside, k .1 .once, k .1 .no-ring, k .1 .reached, k .1 .after .lines)
+
+-- ---- the last test
+
+module _ (g : Shape) (n : ℕ) (s : List ℕ) (c : Cursor) (ps : List Pin) (w₀ w : List ℕ) where
+  -- a refusal before it is the line's
+  pub line-refused : (r : EdgesRead) → JoinedRead g n s c ps w₀ w r → (f : Refusal) → r ≡ Refused f → LineRead g n s c ps w₀ w (Refused f)
+  line-refused r k f q = rw q at k
+
+  module _ (r : EdgesRead) (k : JoinedRead g n s c ps w₀ w r) (e : Edges) (d : Cursor) (q : r ≡ Line e d) where
+    joined-found : JoinedFound g n s c ps w₀ w e d
+    joined-found = rw q at k
+
+    entries-at : EntriesAt g s e (joined-found .line .entries)
+    entries-at = record {
+      rest = drop (d .at) s;
+      there = joined-found .line .text;
+      inside = joined-found .line .inside;
+      count = joined-found .line .count-is ∙ length-map (joined-found .line .entries) (edgeAt (g .w) (g .h));
+    }
+
+    module _ (b : Bool) (served : (ts : List Triple) → EntriesAt g s e ts → b ≡ all (hasLayer (sizesOf g)) (edgesOn g ts)) where
+      layers-are : all (hasLayer (sizesOf g)) (edgesOn g (joined-found .line .entries)) ≡ b
+      layers-are = sym (served (joined-found .line .entries) entries-at)
+
+      -- every edge has a layer
+      pub line-served : b ≡ true → LineRead g n s c ps w₀ w (Line e d)
+      line-served t = record {
+        from-in = joined-found .from-in;
+        line = joined-found .line;
+        is = joined-found .left ∙ rw (layers-are ∙ t);
+      }
+
+      -- some edge has none
+      pub line-unserved : b ≡ false → LineRead g n s c ps w₀ w (Refused (OnLine NoLayer (d .line)))
+      line-unserved t = joined-found .left ∙ rw (layers-are ∙ t)

@@ -2,3 +2,4 @@ mod Grid
 mod Turns
 mod Loop
 mod Law
+mod Again

@@ -161,9 +161,9 @@ module _ (g : Shape) (shaped : Shaped g) (n : ℕ) (t : Triple) (inside : edgeIn
         )
 
     module _ (k : ℕ) (found-new : New k ≡ endsOf n (tilesOf g w) here there (t .third)) (w₁ w₂ w₃ : List ℕ)
-        (marks-out : Outside (tilesAt g) (g .t) w w₁)
-        (marks-are : tilesOf g w₁ ≡ endsAfter n (tilesOf g w) here there (t .third))
-        (stored : w₂ ≡ set w₁ (demandAt g + edge) (getD w₁ (demandAt g + edge) 0 + 1))
+        (stored : w₁ ≡ set w (demandAt g + edge) (getD w (demandAt g + edge) 0 + 1))
+        (marks-out : Outside (tilesAt g) (g .t) w₁ w₂)
+        (marks-are : tilesOf g w₂ ≡ endsAfter n (tilesOf g w) here there (t .third))
         (links-out : Outside (linksAt g) (g .t) w₂ w₃) where
       module _ (r : Bool) (merged : Merged n (linksOf g w₂) here there (linksOf g w₃) r) (j : Judged) (o : GoesOn j)
           (ps : List Pin) (w₀ : List ℕ) (ts : List Triple) (parts parts′ : ℕ) (s : Shown g n ps w₀ ts parts w j) where
@@ -173,10 +173,10 @@ module _ (g : Shape) (shaped : Shaped g) (n : ℕ) (t : Triple) (inside : edgeIn
         new : marked n (tilesOf g w) (loOf (g .w) (g .h) (edgeOf g t)) (8 + t .third) ≡ false
         new = rw here-low at (new-marked n (tilesOf g w) here there (t .third) k found-new .0)
 
-        marks-ends : tilesOf g w₁ ≡ endsAfter n (tilesOf g w) (loOf (g .w) (g .h) (edgeOf g t)) (hiOf (g .w) (g .h) (edgeOf g t)) (t .third)
+        marks-ends : tilesOf g w₂ ≡ endsAfter n (tilesOf g w) (loOf (g .w) (g .h) (edgeOf g t)) (hiOf (g .w) (g .h) (edgeOf g t)) (t .third)
         marks-ends = rw (here-low, there-high) at marks-are
 
-        stored-edge : w₂ ≡ set w₁ (demandAt g + edgeOf g t) (getD w₁ (demandAt g + edgeOf g t) 0 + 1)
+        stored-edge : w₁ ≡ set w (demandAt g + edgeOf g t) (getD w (demandAt g + edgeOf g t) 0 + 1)
         stored-edge = rw edge-number at stored
 
         merged-ends : Merged n (linksOf g w₂) (loOf (g .w) (g .h) (edgeOf g t)) (hiOf (g .w) (g .h) (edgeOf g t)) (linksOf g w₃) r
@@ -187,14 +187,14 @@ module _ (g : Shape) (shaped : Shaped g) (n : ℕ) (t : Triple) (inside : edgeIn
           inside = all-in g ts t (going .inside) inside;
           once = still-once g ts t (going .once) (sym (marked-has g shaped n ps (edgesOn g ts) parts w₀ w room (going .reading) t inside way) ∙ new);
           reading = rw (on-snoc g ts t)
-              (reading-then g shaped n ps (edgesOn g ts) parts w₀ w room (going .reading) t inside way new w₁ w₂ w₃ marks-out marks-ends stored-edge links-out r merged-ends
+              (reading-then g shaped n ps (edgesOn g ts) parts w₀ w room (going .reading) t inside way new w₁ w₂ w₃ stored-edge marks-out marks-ends links-out r merged-ends
               k (rw (here-low, there-high) at (new-marked n (tilesOf g w) here there (t .third) k found-new .1)) parts′ sum-is);
         }
 
         ring-now : ring (g .w) (g .h) (edgesOn g (ts ++ (t ∷ []))) ≡ cond (closed j) true (not r)
         ring-now =
             ap (ring (g .w) (g .h)) (on-snoc g ts t)
-            ∙ ring-then g shaped n ps (edgesOn g ts) parts w₀ w room (going .reading) t inside way new w₁ w₂ w₃ marks-out marks-ends stored-edge links-out r merged-ends
+            ∙ ring-then g shaped n ps (edgesOn g ts) parts w₀ w room (going .reading) t inside way new w₁ w₂ w₃ stored-edge marks-out marks-ends links-out r merged-ends
             ∙ ap (λ (q : Bool). cond q true (not r)) (goes-on g n ps w₀ ts parts w j o s .1)
 
         -- its ends were apart
@@ -214,5 +214,5 @@ module _ (g : Shape) (shaped : Shaped g) (n : ℕ) (t : Triple) (inside : edgeIn
             go false = refl
 
 -- each step keeps the length
-pub steps-long : (a b i v : ℕ) (t u : ℕ) (w w₁ w₂ w₃ : List ℕ) → Outside a t w w₁ → w₂ ≡ set w₁ i v → Outside b u w₂ w₃ → length w₃ ≡ length w
-steps-long a b i v t u w w₁ w₂ w₃ o e p = p .long ∙ ap length e ∙ length-set w₁ i v ∙ o .long
+pub steps-long : (a b i v : ℕ) (t u : ℕ) (w w₁ w₂ w₃ : List ℕ) → w₁ ≡ set w i v → Outside a t w₁ w₂ → Outside b u w₂ w₃ → length w₃ ≡ length w
+steps-long a b i v t u w w₁ w₂ w₃ e o p = p .long ∙ o .long ∙ ap length e ∙ length-set w i v

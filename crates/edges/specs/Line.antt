@@ -11,7 +11,7 @@ use Rattle.layout.specs.Shapes.{sizesOf}
 use Rattle.layout.specs.declared.Shape.{Shape}
 use Rattle.model.specs.Job.{Pin}
 use Rattle.model.specs.Lists.{all, twice}
-use Rattle.model.specs.Read.{Result, refused, found, Triple, edgeInside, edgeAt, edgesLine}
+use Rattle.model.specs.Read.{Result, refused, found, Triple, edgeInside, edgeAt, hasLayer, edgesLine}
 use Rattle.model.specs.Text.{cutLine}
 use Rattle.model.specs.Tree.{ring, joined}
 use Rattle.scan.specs.Lines.{Lined}
@@ -29,7 +29,7 @@ use Rattle.edges.specs.declared.Judged.{Judged}
 use Rattle.edges.specs.declared.Judged.the-variants.{Fine, Ring, Twice, Range}
 use Rattle.edges.specs.declared.Seen.{Seen}
 
--- a line of entries that was read, judged: range, the same edge twice, ring, reach
+-- a line of entries that was read, judged but for its last test: range, the same edge twice, ring, reach
 abbrev pub judgedLine : ℕ → ℕ → List Pin → ℕ → Lined → Result (List ℕ)
 judgedLine W H ps l none = refused 2 l
 judgedLine W H ps l (some c) =
@@ -64,6 +64,19 @@ pub record EdgesFound (g : Shape) (n : ℕ) (s : List ℕ) (line : ℕ) (ps : Li
 abbrev pub EntriesRead : Shape → ℕ → List ℕ → Cursor → List Pin → List ℕ → List ℕ → Lined → EdgesRead → Type 0
 EntriesRead g n s c ps w₀ w r (Refused f) = judgedLine (g .w) (g .h) ps (c .line) r ≡ refusedBy f
 EntriesRead g n s c ps w₀ w r (Line e d) = (e .from ≡ c .at) × EdgesFound g n s (c .line) ps w₀ w r e d
+
+-- An `edges` line at the place c of the text s that passed every test but the last, which decides: "13, on an `edges` line, after 8 and before 11, an edge
+-- whose direction has no layer" (document 02, S-2).
+pub record JoinedFound (g : Shape) (n : ℕ) (s : List ℕ) (c : Cursor) (ps : List Pin) (w₀ w : List ℕ) (e : Edges) (d : Cursor) : Type 0 where
+  pub from-in : e .from ≤ length s
+  pub line : EdgesFound g n s (c .line + 1) ps w₀ w (edgesCut (cutLine (drop (e .from) s))) e d
+  pub left : edgesLine (sizesOf g) ps (placeOf s c)
+      ≡ cond (all (hasLayer (sizesOf g)) (edgesOn g (line .entries))) (found (edgesOn g (line .entries)) (placeOf s d)) (refused 13 (d .line))
+
+-- the answer to the line at a place, but for its last test
+abbrev pub JoinedRead : Shape → ℕ → List ℕ → Cursor → List Pin → List ℕ → List ℕ → EdgesRead → Type 0
+JoinedRead g n s c ps w₀ w (Refused f) = edgesLine (sizesOf g) ps (placeOf s c) ≡ refusedBy f
+JoinedRead g n s c ps w₀ w (Line e d) = JoinedFound g n s c ps w₀ w e d
 
 -- A fine `edges` line at the place c of the text s.
 pub record LineFound (g : Shape) (n : ℕ) (s : List ℕ) (c : Cursor) (ps : List Pin) (w₀ w : List ℕ) (e : Edges) (d : Cursor) : Type 0 where

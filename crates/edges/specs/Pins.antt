@@ -9,6 +9,7 @@ use native.Mathlib.Omega.{arith}
 use lib.Dec.{eqb}
 use lib.ListN.{length}
 use Rattle.layout.specs.Areas.{demandAt, tilesAt, linksAt, chosenAt, tilesOf}
+use Rattle.layout.specs.Dirs.{dirsOf}
 use Rattle.layout.specs.Parts.{Outside, part-long, part-outside}
 use Rattle.layout.specs.Shapes.{sizesOf, Shaped}
 use Rattle.layout.specs.declared.Shape.{Shape}
@@ -47,7 +48,7 @@ pub record PinsFit (g : Shape) (ps : List Pin) : Type 0 where
 
 pub pins-fit-grid : (g : Shape) → Shaped g → (p q : Place) (ps : List Pin) → pinsLine (sizesOf g) p ≡ found ps q → PinsFit g ps
 pins-fit-grid g shaped p q ps e =
-    let k = gives-found (PinsOk (g .w) (g .h) (g .k)) (pinsLine (sizesOf g) p) ps q e (pins-give (g .w) (g .h) (g .k) p) in
+    let k = gives-found (PinsOk (g .w) (g .h) (g .k) (dirsOf (g .k) (g .dirs))) (pinsLine (sizesOf g) p) ps q e (pins-give (g .w) (g .h) (g .k) (dirsOf (g .k) (g .dirs)) p) in
     record { some-pin = k .0; inside = go ps (k .1) (k .2); once = k .3 }
   where
     go : (qs : List Pin) → ((t : ℕ) → In t (pinTiles qs) → t < g .w * g .h) → EachPin (λ r. (1 ≤ r .layer) × (r .layer ≤ g .k)) qs → AllInside (g .t) qs

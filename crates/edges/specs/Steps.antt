@@ -57,11 +57,15 @@ module _ (lo hi : ℕ → ℕ) (size : ℕ) (touched par : ℕ → ℕ) (n : ℕ
 
 -- ---- one more edge
 
--- marks and demand leave the links
-pub kept-links : (g : Shape) (w w₁ w₂ : List ℕ) (e v : ℕ) → e < g .e → Outside (tilesAt g) (g .t) w w₁ → w₂ ≡ set w₁ (demandAt g + e) v → linksOf g w₂ ≡ linksOf g w
-kept-links g w w₁ w₂ e v known out stored =
-    part-outside (demandAt g + e) 1 w₁ w₂ (rw stored (set-outside w₁ (demandAt g + e) v)) (linksAt g) (g .t) (inr (omega arith))
-    ∙ part-outside (tilesAt g) (g .t) w w₁ out (linksAt g) (g .t) (inr (omega arith))
+-- its demand leaves the marks
+pub kept-tiles : (g : Shape) (w w₁ : List ℕ) (e v : ℕ) → e < g .e → w₁ ≡ set w (demandAt g + e) v → tilesOf g w₁ ≡ tilesOf g w
+kept-tiles g w w₁ e v known stored = part-outside (demandAt g + e) 1 w w₁ (rw stored (set-outside w (demandAt g + e) v)) (tilesAt g) (g .t) (inr (omega arith))
+
+-- demand and marks leave the links
+pub kept-links : (g : Shape) (w w₁ w₂ : List ℕ) (e v : ℕ) → e < g .e → w₁ ≡ set w (demandAt g + e) v → Outside (tilesAt g) (g .t) w₁ w₂ → linksOf g w₂ ≡ linksOf g w
+kept-links g w w₁ w₂ e v known stored out =
+    part-outside (tilesAt g) (g .t) w₁ w₂ out (linksAt g) (g .t) (inr (omega arith))
+    ∙ part-outside (demandAt g + e) 1 w w₁ (rw stored (set-outside w (demandAt g + e) v)) (linksAt g) (g .t) (inr (omega arith))
 
 module _ (g : Shape) (shaped : Shaped g) (n : ℕ) (ps : List Pin) (es : List ℕ) (parts : ℕ) (w₀ w : List ℕ) (room : chosenAt g ≤ length w) (reading : Reading g n ps es parts w₀ w)
     (t : Triple) (inside : edgeInside (g .w) (g .h) t ≡ true) (way : t .third ≤ 1) where
@@ -82,9 +86,9 @@ module _ (g : Shape) (shaped : Shaped g) (n : ℕ) (ps : List Pin) (es : List �
   marked-has = ap (λ (s : ℕ). marked n (tilesOf g w) s (8 + t .third)) (at .starts) ∙ reading .ways t inside way
 
   module _ (new : marked n (tilesOf g w) (loOf (g .w) (g .h) (edgeOf g t)) (8 + t .third) ≡ false) (w₁ w₂ w₃ : List ℕ)
-      (marks-out : Outside (tilesAt g) (g .t) w w₁)
-      (marks-are : tilesOf g w₁ ≡ endsAfter n (tilesOf g w) (loOf (g .w) (g .h) (edgeOf g t)) (hiOf (g .w) (g .h) (edgeOf g t)) (t .third))
-      (stored : w₂ ≡ set w₁ (demandAt g + edgeOf g t) (getD w₁ (demandAt g + edgeOf g t) 0 + 1))
+      (stored : w₁ ≡ set w (demandAt g + edgeOf g t) (getD w (demandAt g + edgeOf g t) 0 + 1))
+      (marks-out : Outside (tilesAt g) (g .t) w₁ w₂)
+      (marks-are : tilesOf g w₂ ≡ endsAfter n (tilesOf g w) (loOf (g .w) (g .h) (edgeOf g t)) (hiOf (g .w) (g .h) (edgeOf g t)) (t .third))
       (links-out : Outside (linksAt g) (g .t) w₂ w₃) where
     tiles-long : length (tilesOf g w) ≡ g .t
     tiles-long = part-long (tilesAt g) (g .t) w (omega arith)
@@ -95,27 +99,26 @@ module _ (g : Shape) (shaped : Shaped g) (n : ℕ) (ps : List Pin) (es : List �
     there-in : there < length tiles
     there-in = omega (arith, tiles-long, at .end-in)
 
-    demand-out : Outside (demandAt g + edgeOf g t) 1 w₁ w₂
-    demand-out = rw stored (set-outside w₁ (demandAt g + edgeOf g t) (getD w₁ (demandAt g + edgeOf g t) 0 + 1))
+    demand-out : Outside (demandAt g + edgeOf g t) 1 w w₁
+    demand-out = rw stored (set-outside w (demandAt g + edgeOf g t) (getD w (demandAt g + edgeOf g t) 0 + 1))
 
     -- below the tiles only the demand of the edge has changed
     unchanged : (i : ℕ) → i < tilesAt g → (i < demandAt g + edgeOf g t) ⊎ (demandAt g + edgeOf g t + 1 ≤ i) → getD w₃ i 0 ≡ getD w i 0
     unchanged i b c =
         links-out .low i (omega arith)
-        ∙ ⊎-elim (λ h. demand-out .low i h) (λ h. demand-out .high i h) c
         ∙ marks-out .low i b
+        ∙ ⊎-elim (λ h. demand-out .low i h) (λ h. demand-out .high i h) c
 
     counted-up : getD w₃ (demandAt g + edgeOf g t) 0 ≡ getD w (demandAt g + edgeOf g t) 0 + 1
     counted-up =
         links-out .low (demandAt g + edgeOf g t) (omega (arith, at .known))
+        ∙ marks-out .low (demandAt g + edgeOf g t) (omega (arith, at .known))
         ∙ ap (λ (l : List ℕ). getD l (demandAt g + edgeOf g t) 0) stored
-        ∙ getD-set-same w₁ (demandAt g + edgeOf g t) (getD w₁ (demandAt g + edgeOf g t) 0 + 1) 0 (omega (arith, at .known, marks-out .long))
-        ∙ ap (λ (x : ℕ). x + 1) (marks-out .low (demandAt g + edgeOf g t) (omega (arith, at .known)))
+        ∙ getD-set-same w (demandAt g + edgeOf g t) (getD w (demandAt g + edgeOf g t) 0 + 1) 0 (omega (arith, at .known))
 
     tiles-are : tilesOf g w₃ ≡ endsAfter n (tilesOf g w) here there (t .third)
     tiles-are =
         part-outside (linksAt g) (g .t) w₂ w₃ links-out (tilesAt g) (g .t) (inl (omega arith))
-        ∙ part-outside (demandAt g + edgeOf g t) 1 w₁ w₂ demand-out (tilesAt g) (g .t) (inr (omega (arith, at .known)))
         ∙ marks-are
 
     ways-then : (u : Triple) → edgeInside (g .w) (g .h) u ≡ true → u .third ≤ 1
@@ -136,7 +139,7 @@ module _ (g : Shape) (shaped : Shaped g) (n : ℕ) (ps : List Pin) (es : List �
 
     module _ (r : Bool) (merged : Merged n (linksOf g w₂) (loOf (g .w) (g .h) (edgeOf g t)) (hiOf (g .w) (g .h) (edgeOf g t)) (linksOf g w₃) r) where
       merged-here : Merged n (linksOf g w) (loOf (g .w) (g .h) (edgeOf g t)) (hiOf (g .w) (g .h) (edgeOf g t)) (linksOf g w₃) r
-      merged-here = rw (kept-links g w w₁ w₂ (edgeOf g t) _ (at .known) marks-out stored) at merged
+      merged-here = rw (kept-links g w w₁ w₂ (edgeOf g t) _ (at .known) stored marks-out) at merged
 
       -- the answer of the joining says whether the edge closes a ring
       pub ring-then : ring (g .w) (g .h) (es ++ (edgeOf g t ∷ [])) ≡ cond (ring (g .w) (g .h) es) true (not r)
@@ -145,7 +148,7 @@ module _ (g : Shape) (shaped : Shaped g) (n : ℕ) (ps : List Pin) (es : List �
       pub reading-then : (k : ℕ) → k ≡ firstMark n (tilesOf g w) here + firstMark n (mark n (tilesOf g w) here (8 + t .third)) there
           → (parts′ : ℕ) → parts′ + bit r ≡ parts + k → Reading g n ps (es ++ (edgeOf g t ∷ [])) parts′ w₀ w₃
       reading-then k k-is parts′ sum-is = record {
-        long = links-out .long ∙ demand-out .long ∙ marks-out .long ∙ reading .long;
+        long = links-out .long ∙ marks-out .long ∙ demand-out .long ∙ reading .long;
         low = λ i h. unchanged i (omega arith) (inl (omega arith)) ∙ reading .low i h;
         demand = λ e h.
             ⊎-elim

@@ -1,5 +1,5 @@
-// The `edges` line of a net, judged from left to right: the form of the whole line first, then range, the same edge twice, a ring, and reach. Its edges are
-// marked by tile, their ends joined, and each is counted into the flat demand.
+// The `edges` line of a net, judged from left to right: the form of the whole line first, then range, the same edge twice, a ring, reach, and layers that run
+// the ways of its edges. Its edges are marked by tile, their ends joined, and each is counted into the flat demand.
 use layout::Shape;
 use text::Cursor;
 use text::Fault;
@@ -9,22 +9,25 @@ use ways::Ends;
 ghost use mathlib.Core.Path.{_≡_};
 ghost use mathlib.Core.Bool.{true, false};
 ghost use mathlib.Core.List.{List, [], _∷_, _++_};
+ghost use mathlib.Core.Option.{some};
 ghost use Prim.Native.Nat.{ℕ, _+_, _-_, _<_, _≤_, _*_};
 ghost use lib.ListN.{length, drop, getD, set};
 ghost use Rattle.layout.specs.Areas.{demandAt, tilesAt, linksAt, chosenAt, tilesOf};
 ghost use Rattle.layout.specs.Parts.{Outside};
-ghost use Rattle.layout.specs.Shapes.{Shaped};
+ghost use Rattle.layout.specs.Shapes.{sizesOf, Shaped};
 ghost use Rattle.marks.specs.Words.{mostStamp};
 ghost use Rattle.model.specs.Job.{Pin};
 ghost use Rattle.model.specs.Limits.{mostNets};
-ghost use Rattle.model.specs.Read.{Triple, edgeInside};
+ghost use Rattle.model.specs.Lists.{all};
+ghost use Rattle.model.specs.Read.{Triple, edgeInside, hasLayer};
 ghost use Rattle.scan.specs.Pins.{triple};
 ghost use Rattle.model.specs.Text.{cutLine};
 ghost use Rattle.scan.specs.Ways.{edgesOf, edgesCut};
 ghost use Rattle.union.specs.Links.{Links, Merged};
 ghost use Rattle.ways.specs.Ends.{endsOf, endsAfter};
-ghost use Rattle.edges.specs.Reading.{linksOf, Reading, Few, Begun, Shown, goesOn, GoesOn, Ready};
-ghost use Rattle.edges.specs.Line.{verdictOf, EntriesRead, LineRead};
+ghost use Rattle.edges.specs.Reading.{linksOf, edgesOn, Reading, Few, Begun, Shown, goesOn, GoesOn, Ready};
+ghost use Rattle.edges.specs.Line.{verdictOf, EntriesRead, JoinedRead, LineRead};
+ghost use Rattle.edges.specs.Served.{goes, EntriesAt};
 
 // What the entries of a line have shown so far, the worst of it: "On one line the lower number wins".
 pub enum Judged {
@@ -104,7 +107,7 @@ fn put_demand(w: &mut [u32], g: Shape, edge: usize)
     w[i] = w[i] + 1;
 }
 
-// One more edge inside the grid, where none is there twice.
+// One more edge inside the grid, where none is there twice. It is counted first: where it is there twice, its line is refused.
 fn add_edge(w: &mut [u32], g: Shape, stamp: u32, v: Seen, e: Item) -> Seen
     requires { ⌜ Shaped g ⌝ }
     requires { ⌜ (chosenAt g ≤ length (now w)) × (stamp ≤ mostStamp) × (v .entries < 4294967296) × (e .z ≤ 1) × (edgeInside (g .w) (g .h) (triple (e .x) (e .y) (e .z)) ≡ true) ⌝ }
@@ -118,6 +121,7 @@ fn add_edge(w: &mut [u32], g: Shape, stamp: u32, v: Seen, e: Item) -> Seen
     let there = out.tile;
     let edge = out.edge;
     let entries = v.entries + 1;
+    put_demand(w, g, edge);
     match put_marks(w, g, stamp, here, there, e.z as u32) {
         Ends::Twice => Seen {
             entries,
@@ -125,7 +129,6 @@ fn add_edge(w: &mut [u32], g: Shape, stamp: u32, v: Seen, e: Item) -> Seen
             judged: Judged::Twice,
         },
         Ends::New(k) => {
-            put_demand(w, g, edge);
             let parts = v.parts + k;
             if put_join(w, g, stamp, here, there) {
                 let judged = v.judged;
@@ -266,6 +269,61 @@ fn list(s: &[u8], c: Cursor, w: &mut [u32], g: Shape, stamp: u32, parts: usize) 
     entries(s, c, w, g, stamp, parts)
 }
 
+// The `edges` line at c, behind the `pins` line of the net, whose tiles lie in so many parts: all its tests but the last, that every edge has a layer.
+fn joined_line(s: &[u8], c: Cursor, w: &mut [u32], g: Shape, stamp: u32, parts: usize) -> EdgesRead
+    requires { ⌜ Shaped g ⌝ }
+    requires { ⌜ (chosenAt g ≤ length (now w)) × (stamp ≤ mostStamp) × (length (now s) ≤ 1048576) × (c .at ≤ length (now s)) × (c .line < 1048576) ⌝ }
+    requires { ⌜ Few g stamp (now w) × Begun g stamp parts (now w) ⌝ }
+    ensures { λ r. ⌜ ((ps : List Pin) (w₀ : List ℕ) → 1 ≤ length ps → Reading g stamp ps [] parts w₀ (now (w .entry)) → JoinedRead g stamp (now (s .entry)) c ps w₀ (now (w .exit)) r) ⌝ }
+    ensures { λ _. ⌜ length (now (w .exit)) ≡ length (now (w .entry)) ⌝ }
+{
+    let o = lines::open_line(s, c, b"edges=");
+    if !o.there {
+        return EdgesRead::Refused(Refusal::Line(Fault::Form, o.place.line));
+    }
+    list(s, o.place, w, g, stamp, parts)
+}
+
+// Whether all entries from `from` on go one way, east (0) or north (1). The line was found right and is read again, so none is malformed. Few jobs have a
+// way without a layer: the short form of entries stays where each line is read first, and the compiler puts it into that one loop.
+fn one_way(s: &[u8], from: usize, way: usize) -> bool
+    ensures { λ r. ⌜ ((ts : List Triple) (rest : List ℕ) → edgesOf (drop from (now (s .entry))) ≡ some (ts, rest) → r ≡ all (goes way) ts) ⌝ }
+{
+    let mut i = from;
+    loop {
+        let entry = text::long_edge(s, i);
+        let e = text::item_of(entry);
+        if !e.good {
+            return true;
+        }
+        if e.z != way {
+            return false;
+        }
+        if e.last {
+            return true;
+        }
+        i = e.next;
+    }
+}
+
+// Whether every edge of a line goes a way that has a layer. Where no layer runs one way, all edges must go the other.
+fn served(s: &[u8], e: Edges, g: Shape) -> bool
+    requires { ⌜ Shaped g ⌝ }
+    ensures { λ r. ⌜ ((ts : List Triple) → EntriesAt g (now (s .entry)) e ts → r ≡ all (hasLayer (sizesOf g)) (edgesOn g ts)) ⌝ }
+{
+    if e.entries == 0 {
+        return true;
+    }
+    let dirs = g.dirs;
+    if !layout::has_layer(dirs, 0, g.k) {
+        return one_way(s, e.from, 1);
+    }
+    if !layout::has_layer(dirs, 1, g.k) {
+        return one_way(s, e.from, 0);
+    }
+    true
+}
+
 // The `edges` line at c, behind the `pins` line of the net, whose tiles lie in so many parts. After a refusal nothing is said of the working numbers
 // but their length.
 pub fn edges_line(
@@ -282,9 +340,13 @@ pub fn edges_line(
     ensures { λ r. ⌜ ((ps : List Pin) (w₀ : List ℕ) → 1 ≤ length ps → Reading g stamp ps [] parts w₀ (now (w .entry)) → LineRead g stamp (now (s .entry)) c ps w₀ (now (w .exit)) r) ⌝ }
     ensures { λ _. ⌜ length (now (w .exit)) ≡ length (now (w .entry)) ⌝ }
 {
-    let o = lines::open_line(s, c, b"edges=");
-    if !o.there {
-        return EdgesRead::Refused(Refusal::Line(Fault::Form, o.place.line));
+    match joined_line(s, c, w, g, stamp, parts) {
+        EdgesRead::Refused(r) => EdgesRead::Refused(r),
+        EdgesRead::Line(e, d) => {
+            if served(s, e, g) {
+                return EdgesRead::Line(e, d);
+            }
+            EdgesRead::Refused(Refusal::Line(Fault::NoLayer, d.line))
+        }
     }
-    list(s, o.place, w, g, stamp, parts)
 }

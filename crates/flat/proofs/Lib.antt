@@ -1,2 +1,1 @@
-mod Fill
 mod Turns

@@ -16,10 +16,10 @@ use Rattle.net.specs.SoFar.{Capacities}
 use Rattle.theory.specs.congestion.Base.{in-upFrom}
 use Rattle.theory.specs.congestion.Lists.{sum-snoc, most-snoc}
 use Rattle.theory.specs.congestion.Sums.{sum-eq}
-use Rattle.flat.specs.FlatPlan.{FlatCapacities, FlatDemands, Overflows, sumAt, capacitySum, overIn, overAt, capacity-sum, overflows-are}
+use Rattle.flat.specs.FlatPlan.{AllCounted, FlatCapacities, FlatDemands, Overflows, sumAt, capacitySum, overIn, overAt, capacity-sum, overflows-are}
 use Rattle.net.specs.Places.{SmallCapacities, edge-room}
 use Rattle.flat.specs.declared.Flat.{Flat}
-use Rattle.flat.proofs.Fill.{Filled}
+use Rattle.layout.specs.Fill.{Filled}
 
 -- ---- sums and largest values from the front
 
@@ -54,12 +54,12 @@ over-small a b n m w h = omega arith
 
 module _ (g : Shape) (w w′ : List ℕ) where
   pub summed : (a n : ℕ) → a ≡ flatAt g → n ≡ g .e → Filled a n (capacitySum g w) w w′
-      → ((j : Job) → Capacities g j w → g .k ≡ j .layers → FlatCapacities g j w′) × Outside (flatAt g) (g .e) w w′
+      → ((j : Job) → Capacities g j w → g .k ≡ j .layers → AllCounted j → FlatCapacities g j w′) × Outside (flatAt g) (g .e) w w′
   summed a n a-is n-is d = finish (rw (a-is, n-is) at d)
     where
       finish : Filled (flatAt g) (g .e) (capacitySum g w) w w′
-          → ((j : Job) → Capacities g j w → g .k ≡ j .layers → FlatCapacities g j w′) × Outside (flatAt g) (g .e) w w′
-      finish f = (λ j c k e h. f .each e h ∙ capacity-sum g j w c k e h, f .outside)
+          → ((j : Job) → Capacities g j w → g .k ≡ j .layers → AllCounted j → FlatCapacities g j w′) × Outside (flatAt g) (g .e) w w′
+      finish f = (λ j c k all e h. f .each e h ∙ capacity-sum g j w c k all e h, f .outside)
 
   pub overflowed : (a b n : ℕ) (r : Flat) → a ≡ demandAt g → b ≡ flatAt g → n ≡ g .e → Filled a n (overIn a b w) w w′
       → r .total ≡ sum (overIn a b w) (upFrom 0 n) → r .most ≡ most (overIn a b w) (upFrom 0 n)

@@ -1,4 +1,5 @@
-// The flat plan in the working numbers: c(e), the overflow of each edge, TO and MO, and the limit on one layer's overflow.
+// The flat plan in the working numbers: c(e), the overflow of each edge, TO and MO, and the limits on one layer's overflow.
+use layout::Dirs;
 use layout::Shape;
 ghost use mathlib.Core.Path.{_≡_};
 ghost use Prim.Native.Nat.{ℕ, _+_, _-_, _<_, _≤_, max};
@@ -11,8 +12,8 @@ ghost use Rattle.model.specs.Limits.{mostLayers, mostCapacity, mostNets};
 ghost use Rattle.model.specs.Overflow.{over, ceilDiv};
 ghost use Rattle.net.specs.SoFar.{Capacities};
 ghost use Rattle.net.specs.Places.{SmallCapacities};
-ghost use Rattle.flat.specs.FlatPlan.{FlatCapacities, FlatDemands, Overflows, sumAt, capacitySum};
-ghost use Rattle.flat.specs.Limited.{limitAt};
+ghost use Rattle.flat.specs.FlatPlan.{AllCounted, FlatCapacities, FlatDemands, Overflows, sumAt, mostAt, capacitySum};
+ghost use Rattle.flat.specs.Limited.{wayLimit, limitsOf, limitAt};
 
 // TO and MO of the flat plan.
 pub struct Flat {
@@ -53,7 +54,7 @@ pub fn flat_capacities(w: &mut [u32], g: Shape)
     requires { ⌜ Shaped g ⌝ }
     requires { ⌜ tilesAt g ≤ length (now w) ⌝ }
     requires { ⌜ SmallCapacities g (now w) ⌝ }
-    ensures { λ _. ⌜ ((j : Job) → Capacities g j (now (w .entry)) → g .k ≡ j .layers → FlatCapacities g j (now (w .exit))) ⌝ }
+    ensures { λ _. ⌜ ((j : Job) → Capacities g j (now (w .entry)) → g .k ≡ j .layers → AllCounted j → FlatCapacities g j (now (w .exit))) ⌝ }
     ensures { λ _. ⌜ Outside (flatAt g) (g .e) (now (w .entry)) (now (w .exit)) ⌝ }
 {
     let flat = layout::flat_at(g);
@@ -103,19 +104,77 @@ pub fn overflows(w: &mut [u32], g: Shape) -> Flat
     Flat { total, most }
 }
 
-// The limit on the overflow of one layer, by edge: the same for all edges.
-pub struct Limits {
-    pub each: u32,
+// ---- the limits on the overflow of one layer
+
+// The largest of n numbers from `at` on, and 0 where there are none.
+fn most_of(w: &[u32], at: usize, n: usize) -> u32
+    requires { ⌜ at + n ≤ length (now w) ⌝ }
+    ensures { λ r. ⌜ r ≡ mostAt at n (now (w .entry)) ⌝ }
+{
+    let mut most = 0u32;
+    for i in 0..n {
+        most = larger(most, w[at + i]);
+    }
+    most
 }
 
-// "MO/K rounded up"
-pub fn limits_of(most: u32, k: usize) -> Limits
-    requires { ⌜ (most ≤ mostNets) × (1 ≤ k) × (k ≤ mostLayers) ⌝ }
-    ensures { λ r. ⌜ ((e : ℕ) → limitAt r e ≡ ceilDiv most k) ⌝ }
+// The overflow divided by the number of layers, "rounded up, and 0 where it has [..] no layer".
+fn share(most: u32, layers: usize) -> u32
+    requires { ⌜ (most ≤ mostNets) × (layers ≤ mostLayers) ⌝ }
+    ensures { λ r. ⌜ r ≡ ceilDiv most layers ⌝ }
 {
-    let n = k as u32;
-    Limits {
-        each: (most + (n - 1)) / n,
+    if layers == 0 {
+        return 0;
+    }
+    let n = layers as u32;
+    (most + (n - 1)) / n
+}
+
+// The limit of n edges from the first one on, all of which go east (0) or north (1): o(e) stands in the place of d(e).
+fn way_limit(w: &[u32], g: Shape, way: u32, first: usize, n: usize) -> u32
+    requires { ⌜ Shaped g ⌝ }
+    requires { ⌜ (first + n ≤ g .e) × (flatAt g ≤ length (now w)) ⌝ }
+    requires { ⌜ ((e : ℕ) → e < g .e → getD (now w) (demandAt g + e) 0 ≤ mostNets) ⌝ }
+    ensures { λ r. ⌜ r ≡ wayLimit g (now (w .entry)) way first n ⌝ }
+{
+    let dirs = g.dirs;
+    let most = most_of(w, layout::demand_at(g) + first, n);
+    share(most, layout::layers_in(dirs, way, g.k))
+}
+
+// The limits of the edges that go east, which are those before the border, and of those that go north.
+pub struct Limits {
+    pub border: usize,
+    pub east: u32,
+    pub north: u32,
+}
+
+// The limits, where o(e) stands in the place of d(e): in a job without directions "MO/K rounded up" for all edges, and else for each direction its own.
+pub fn limits_of(w: &[u32], g: Shape, most: u32) -> Limits
+    requires { ⌜ Shaped g ⌝ }
+    requires { ⌜ (flatAt g ≤ length (now w)) × (most ≤ mostNets) ⌝ }
+    requires { ⌜ ((e : ℕ) → e < g .e → getD (now w) (demandAt g + e) 0 ≤ mostNets) ⌝ }
+    ensures { λ r. ⌜ r ≡ limitsOf g (now (w .entry)) most ⌝ }
+{
+    let dirs = g.dirs;
+    match dirs {
+        Dirs::Any => {
+            let each = share(most, g.k);
+            Limits {
+                border: g.east,
+                east: each,
+                north: each,
+            }
+        }
+        Dirs::Given(_) => {
+            let east = way_limit(w, g, 0, 0, g.east);
+            let north = way_limit(w, g, 1, g.east, g.e - g.east);
+            Limits {
+                border: g.east,
+                east,
+                north,
+            }
+        }
     }
 }
 
@@ -123,12 +182,15 @@ pub fn limits_of(most: u32, k: usize) -> Limits
 pub fn limit_at(m: Limits, edge: usize) -> u32
     ensures { λ r. ⌜ r ≡ limitAt m edge ⌝ }
 {
-    m.each
+    if edge < m.border {
+        return m.east;
+    }
+    m.north
 }
 
 // The largest limit of all edges.
 pub fn largest_limit(m: Limits) -> u32
-    ensures { λ r. ⌜ ((e : ℕ) → r ≡ limitAt m e) ⌝ }
+    ensures { λ r. ⌜ r ≡ max (m .east) (m .north) ⌝ }
 {
-    m.each
+    larger(m.east, m.north)
 }

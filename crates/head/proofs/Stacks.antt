@@ -1,18 +1,24 @@
 -- The line `layers`, judged by the stack's limits.
 -- Assumes nothing.
-use mathlib.Core.Path.{_≡_, refl, sym, ap, _∙_}
+use mathlib.Core.Path.{_≡_, refl, sym, ap, _∙_, subst}
 use mathlib.Core.Bool.{Bool, true, false, cond}
-use Prim.Native.Nat.{ℕ, _≤_}
+use Prim.Native.Nat.{ℕ, _+_, _≤_}
 use native.Mathlib.Omega.{arith}
 use borrow.Author.Tests.{ltb-true, ltb-false}
 use lib.Dec.{ltb}
-use Rattle.model.specs.Read.{Place, Result, refused, found, next}
-use Rattle.layout.specs.Shapes.{stackOf, shapeOf}
+use Rattle.model.specs.Read.{Place, Result, refused, found, next, dirsLine}
+use Rattle.theory.specs.links.JobText.{dirsLines}
+use Rattle.text.specs.declared.Cursor.{Cursor}
+use Rattle.layout.specs.Dirs.{dirsOf}
+use Rattle.layout.specs.Shapes.{stackOf, shapeOf, sizesOf}
+use Rattle.layout.specs.declared.Dirs.{Dirs}
+use Rattle.layout.specs.declared.Shape.{Shape}
 use Rattle.layout.specs.declared.Made.the-variants.{Stack as stacked, Outside}
 use Rattle.layout.specs.declared.Stack.{Stack}
 use Rattle.lines.specs.Keyed.{keyBytes, numberLineBy, rangedBy, ranged-is}
+use Rattle.lines.specs.Told.{After}
 use Rattle.lines.proofs.Ranges.{range-refused, range-low, range-high, range-in}
-use Rattle.head.specs.Reads.{stackIn}
+use Rattle.head.specs.Reads.{waysIn, stackIn}
 
 not-outside : (st : Stack) → Outside ≡ stacked st → ⊥
 not-outside st e = let z : _≡_ {A = ℕ} 0 1 = cc in omega arith
@@ -30,7 +36,7 @@ stack-limits k st e = go (ltb k 2) (ltb 8 k) refl refl e
         layers-is = let f : record { layers = k } ≡ st = cc in ap (λ (x : Stack). x .layers) (sym f)
 
 module _ (W H : ℕ) (p : Place) where
-  by-range : (r : Result ℕ) → rangedBy (keyBytes "layers") 2 8 p ≡ r → stackIn W H p ≡ next r (λ K q. found (shapeOf W H K) q)
+  by-range : (r : Result ℕ) → rangedBy (keyBytes "layers") 2 8 p ≡ r → stackIn W H p ≡ next r (waysIn W H)
   unfolding stackIn
   by-range r e = rw (ranged-is "layers" 2 8 p ∙ e)
 
@@ -46,8 +52,24 @@ module _ (W H : ℕ) (p : Place) where
         go false true x y h = by-range (refused 3 (q .line)) (range-high (keyBytes "layers") 2 8 p k q e (ltb-false k 2 x) (ltb-true 8 k y))
         go false false x y h = absurd (not-outside (record { layers = k }) (sym h))
 
-    pub stack-inside : (st : Stack) → stackOf k ≡ stacked st → stackIn W H p ≡ found (shapeOf W H (st .layers)) q
-    stack-inside st h = by-range (found k q) (range-in (keyBytes "layers") 2 8 p k q e (l .1) (l .2)) ∙ ap (λ (x : ℕ). found (shapeOf W H x) q) (sym (l .0))
+    pub stack-inside : (st : Stack) → stackOf k ≡ stacked st → stackIn W H p ≡ waysIn W H (st .layers) q
+    stack-inside st h = by-range (found k q) (range-in (keyBytes "layers") 2 8 p k q e (l .1) (l .2)) ∙ ap (λ (x : ℕ). waysIn W H x q) (sym (l .0))
       where
         l : (st .layers ≡ k) × (2 ≤ k) × (k ≤ 8)
         l = stack-limits k st h
+
+-- ---- the line `dirs`, where it stands
+
+module _ (W H K : ℕ) (p : Place) where
+  pub ways-refused : (n l : ℕ) → dirsLine K p ≡ refused n l → waysIn W H K p ≡ refused n l
+  unfolding waysIn
+  ways-refused n l e = rw e
+
+  -- the shape that is made of what was read
+  pub ways-found : (d : Dirs) (q : Place) (g : Shape) → g ≡ shapeOf W H K d → dirsLine K p ≡ found (dirsOf K d) q → found (sizesOf g) q ≡ waysIn W H K p
+  unfolding waysIn
+  ways-found d q g s e = ap (λ (x : Shape). found (sizesOf x) q) s ∙ sym (rw e)
+
+pub ways-hold : (size line K : ℕ) (d : Dirs) (W H : ℕ) (g : Shape) (c : Cursor) → g ≡ shapeOf W H K d → After size (line + dirsLines (dirsOf K d)) c
+    → After size (line + dirsLines (dirsOf (g .k) (g .dirs))) c
+ways-hold size line K d W H g c s h = subst (λ (x : Shape). After size (line + dirsLines (dirsOf (x .k) (x .dirs))) c) (sym s) h

@@ -3,14 +3,13 @@
 use mathlib.Core.Path.{_≡_, refl}
 use mathlib.Core.Bool.{_&&_}
 use mathlib.Core.List.{List}
+use mathlib.Core.Option.{Option}
 use Prim.Native.Nat.{ℕ}
 use lib.Dec.{leb}
 use lib.ListN.{length}
 use Rattle.model.specs.Job.{Job, entryCount}
 use Rattle.model.specs.Limits.{leastSide, mostSide, leastLayers, mostLayers, mostWeight, mostNets, mostText}
-use Rattle.model.specs.Read.{Place, Result, Reading, refused, found, next, _>>=_, _>>_, give, need, ranged, capacityLines, nets, Lent, workingNeed, printNeed, printFits, end, jobIn, read}
-use Rattle.layout.specs.Shapes.{shapeOf}
-use Rattle.layout.specs.declared.Shape.{Shape}
+use Rattle.model.specs.Read.{Place, Result, Reading, refused, found, next, _>>=_, _>>_, give, need, ranged, dirsLine, capacityLines, Sizes, nets, Lent, workingNeed, printNeed, printFits, end, jobIn, read}
 use Rattle.head.specs.declared.Weights.{Weights}
 
 -- what the head of a job says
@@ -18,6 +17,8 @@ pub record HeadJob : Type 0 where
   pub width : ℕ
   pub height : ℕ
   pub layers : ℕ
+  -- the way of each layer, where the line `dirs` stands
+  pub dirs : Option (List ℕ)
   pub alpha : ℕ
   pub beta : ℕ
   pub gamma : ℕ
@@ -26,13 +27,19 @@ pub record HeadJob : Type 0 where
   -- N, the number of nets
   pub nets : ℕ
 
--- the lines `width`, `height` and `layers`
-unfoldable pub stackIn : ℕ → ℕ → Reading Shape
+-- the line `dirs`, where it stands, of K layers
+unfoldable pub waysIn : ℕ → ℕ → ℕ → Reading Sizes
+waysIn W H K = do
+  ds ← dirsLine K
+  give (record { width = W; height = H; layers = K; dirs = ds })
+
+-- the lines `width`, `height` and `layers`, and `dirs`
+unfoldable pub stackIn : ℕ → ℕ → Reading Sizes
 stackIn W H = do
   K ← ranged "layers" leastLayers mostLayers
-  give (shapeOf W H K)
+  waysIn W H K
 
-unfoldable pub sizesIn : Reading Shape
+unfoldable pub sizesIn : Reading Sizes
 sizesIn = do
   W ← ranged "width" leastSide mostSide
   H ← ranged "height" leastSide mostSide
@@ -53,32 +60,33 @@ netsIn order = do
   need 10 (leb N order)
   give N
 
--- the lines after `layers`
-unfoldable pub bodyIn : Shape → ℕ → Reading HeadJob
-bodyIn g order = do
+-- the lines after these
+unfoldable pub bodyIn : Sizes → ℕ → Reading HeadJob
+bodyIn z order = do
   v ← weightsIn
-  cs ← capacityLines (g .w) (g .h) (g .k)
+  cs ← capacityLines (z .width) (z .height) (z .dirs) 1 (z .layers)
   N ← netsIn order
-  give (record { width = g .w; height = g .h; layers = g .k; alpha = v .alpha; beta = v .beta; gamma = v .gamma; capacities = cs; nets = N })
+  give (record { width = z .width; height = z .height; layers = z .layers; dirs = z .dirs; alpha = v .alpha; beta = v .beta; gamma = v .gamma; capacities = cs; nets = N })
 
--- "1, 0: text above 1,048,576 bytes"; "9 is found right after line 3, 10 after the `nets` line": by the lengths of the text, of the working
+-- "1, 0: text above 1,048,576 bytes"; "9 is found right after line 3", or after line 4 where that is `dirs`, "10 after the `nets` line": by the lengths of the text, of the working
 -- numbers and of the order list
 unfoldable pub headIn : ℕ → ℕ → ℕ → Reading HeadJob
 headIn size working order = do
   need 1 (leb size mostText)
-  g ← sizesIn
-  need 9 (leb (workingNeed (g .w) (g .h) (g .k)) working)
-  bodyIn g order
+  z ← sizesIn
+  need 9 (leb (workingNeed (z .width) (z .height) (z .layers)) working)
+  bodyIn z order
 
 -- the nets and the end of the text, after the head
 unfoldable pub restIn : Lent → HeadJob → Reading Job
 restIn lent h = do
-  ns ← nets (record { width = h .width; height = h .height; layers = h .layers }) 1 (h .nets)
+  ns ← nets (record { width = h .width; height = h .height; layers = h .layers; dirs = h .dirs }) 1 (h .nets)
   end
   let job : Job = record {
     width = h .width;
     height = h .height;
     layers = h .layers;
+    dirs = h .dirs;
     alpha = h .alpha;
     beta = h .beta;
     gamma = h .gamma;
@@ -105,17 +113,18 @@ module _ {A B C D : Type 0} where
 
 pub read-splits : (lent : Lent) (text : List ℕ) →
     read lent text ≡ next (headIn (length text) (lent .working) (lent .order) (record { line = 0; rest = text })) (restIn lent)
-unfolding read jobIn headIn sizesIn stackIn bodyIn weightsIn netsIn restIn
+unfolding read jobIn headIn sizesIn stackIn waysIn bodyIn weightsIn netsIn restIn
 read-splits lent text =
     once (need 1 (leb (length text) mostText) (record { line = 0; rest = text })) _ _ _ λ u p.
     twice (ranged "width" leastSide mostSide p) _ _ _ _ λ W p.
     twice (ranged "height" leastSide mostSide p) _ _ _ _ λ H p.
     twice (ranged "layers" leastLayers mostLayers p) _ _ _ _ λ K p.
+    twice (dirsLine K p) _ _ _ _ λ ds p.
     once (need 9 (leb (workingNeed W H K) (lent .working)) p) _ _ _ λ u p.
     twice (ranged "alpha" 0 mostWeight p) _ _ _ _ λ a p.
     twice (ranged "beta" 0 mostWeight p) _ _ _ _ λ b p.
     twice (ranged "gamma" 0 mostWeight p) _ _ _ _ λ g p.
-    once (capacityLines W H K p) _ _ _ λ cs p.
+    once (capacityLines W H ds 1 K p) _ _ _ λ cs p.
     twice (ranged "nets" 0 mostNets p) _ _ _ _ λ N p.
     twice (need 10 (leb N (lent .order)) p) _ _ _ _ λ u p.
     refl

@@ -2,12 +2,14 @@
 -- Assumes nothing.
 use mathlib.Core.Path.{_≡_, sym, ap, _∙_}
 use mathlib.Core.List.{List}
-use Prim.Native.Nat.{ℕ, _*_, _≤_}
+use Prim.Native.Nat.{ℕ, _+_, _*_, _≤_}
 use lib.ListN.{length, drop}
 use Rattle.model.specs.Limits.{mostWeight, mostNets}
+use Rattle.model.specs.Read
 use Rattle.model.specs.Read.{Result, found, next, Lent, workingNeed, read}
-use Rattle.theory.specs.links.JobText.{headLines}
-use Rattle.layout.specs.Shapes.{Shaped}
+use Rattle.theory.specs.links.JobText.{dirsLines, headLines}
+use Rattle.layout.specs.Dirs.{dirsOf}
+use Rattle.layout.specs.Shapes.{sizesOf, Shaped}
 use Rattle.layout.specs.declared.Shape.{Shape}
 use Rattle.text.specs.Refusals.{placeOf}
 use Rattle.text.specs.declared.Cursor.{Cursor}
@@ -27,12 +29,13 @@ use Rattle.head.specs.declared.HeadRead.the-variants.{Head as headed, Re
 
 -- ---- sizes and weights in the text s
 
-abbrev pub sizesTold : List ℕ → Sizes → Result Shape
-sizesTold s (sized g c) = found g (placeOf s c)
+abbrev pub sizesTold : List ℕ → Sizes → Result Read.Sizes
+sizesTold s (sized g c) = found (sizesOf g) (placeOf s c)
 sizesTold s (Unsized r) = refusedBy r
 
+-- the next line comes after `line` others, and after the line `dirs` where it stands
 abbrev pub sizesHold : ℕ → ℕ → Sizes → Type 0
-sizesHold size line (sized g c) = Shaped g × After size line c
+sizesHold size line (sized g c) = Shaped g × After size (line + dirsLines (dirsOf (g .k) (g .dirs))) c
 sizesHold size line (Unsized r) = Unit {0}
 
 pub record Small (v : Weights) : Type 0 where
@@ -61,6 +64,7 @@ headJob h w = record {
   width = h .shape .w;
   height = h .shape .h;
   layers = h .shape .k;
+  dirs = dirsOf (h .shape .k) (h .shape .dirs);
   alpha = h .alpha;
   beta = h .beta;
   gamma = h .gamma;
@@ -82,7 +86,7 @@ pub record Holds (size entries : ℕ) (w x : List ℕ) (h : Head) (c : Cursor) :
   pub order : h .nets ≤ entries
   pub working : workingNeed (h .shape .w) (h .shape .h) (h .shape .k) ≤ length w
   pub place : c .at ≤ size
-  pub lines : c .line ≡ headLines (h .shape .k)
+  pub lines : c .line ≡ headLines (dirsOf (h .shape .k) (h .shape .dirs)) (h .shape .k)
   pub beyond : drop (h .shape .k * h .shape .e) x ≡ drop (h .shape .k * h .shape .e) w
 
 abbrev pub headHolds : ℕ → ℕ → List ℕ → List ℕ → HeadRead → Type 0

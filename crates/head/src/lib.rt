@@ -1,4 +1,5 @@
 // The head of a job text: the lines from `width` through `nets`, with the capacities stored in the working numbers.
+use dirs::DirsRead;
 use layout::Made;
 use layout::Shape;
 use layout::Stack;
@@ -11,10 +12,12 @@ ghost use mathlib.Core.Path.{_≡_};
 ghost use Prim.Native.Nat.{_+_, _<_, _≤_};
 ghost use lib.ListN.{length};
 ghost use Rattle.model.specs.Read.{workingNeed};
-ghost use Rattle.layout.specs.Shapes.{Shaped};
+ghost use Rattle.theory.specs.links.JobText.{stackLine};
+ghost use Rattle.layout.specs.Dirs.{dirsOf};
+ghost use Rattle.layout.specs.Shapes.{sizesOf, Shaped};
 ghost use Rattle.text.specs.Refusals.{placeOf};
 ghost use Rattle.lines.specs.Told.{fieldTold};
-ghost use Rattle.head.specs.Reads.{stackIn, sizesIn, weightsIn, netsIn, bodyIn, headIn};
+ghost use Rattle.head.specs.Reads.{waysIn, stackIn, sizesIn, weightsIn, netsIn, bodyIn, headIn};
 ghost use Rattle.head.specs.Told.{sizesTold, sizesHold, weightsTold, weightsHold, netsHold, headTold, headHolds};
 
 // "W = width and H = height, 1 to 64"
@@ -60,9 +63,22 @@ pub enum HeadRead {
     Refused(Refusal),
 }
 
+// The line `dirs`, where it stands behind `layers`.
+fn read_ways(s: &[u8], c: Cursor, w: usize, h: usize, stack: Stack) -> Sizes
+    requires { ⌜ (c .at ≤ length (now s)) × (c .line < 100) ⌝ }
+    requires { ⌜ (1 ≤ w) × (w ≤ 64) × (1 ≤ h) × (h ≤ 64) × (2 ≤ stack .layers) × (stack .layers ≤ 8) ⌝ }
+    ensures { λ r. ⌜ sizesTold (now (s .entry)) r ≡ waysIn w h (stack .layers) (placeOf (now (s .entry)) c) ⌝ }
+    ensures { λ r. ⌜ sizesHold (length (now (s .entry))) (c .line) r ⌝ }
+{
+    match dirs::read_dirs(s, c, stack.layers) {
+        DirsRead::Refused(r) => Sizes::Refused(r),
+        DirsRead::Dirs(ways, d) => Sizes::Shape(layout::shape_of(w, h, stack, ways), d),
+    }
+}
+
 // The line `layers`, after `width` and `height`.
 fn read_stack(s: &[u8], c: Cursor, w: usize, h: usize) -> Sizes
-    requires { ⌜ (c .at ≤ length (now s)) × (c .line < 1000) ⌝ }
+    requires { ⌜ (c .at ≤ length (now s)) × (c .line < 50) ⌝ }
     requires { ⌜ (1 ≤ w) × (w ≤ 64) × (1 ≤ h) × (h ≤ 64) ⌝ }
     ensures { λ r. ⌜ sizesTold (now (s .entry)) r ≡ stackIn w h (placeOf (now (s .entry)) c) ⌝ }
     ensures { λ r. ⌜ sizesHold (length (now (s .entry))) (c .line + 1) r ⌝ }
@@ -71,14 +87,14 @@ fn read_stack(s: &[u8], c: Cursor, w: usize, h: usize) -> Sizes
         Field::Refused(r) => Sizes::Refused(r),
         Field::Value(k, d) => match Stack::new(k) {
             Made::Outside => Sizes::Refused(Refusal::Line(Fault::Range, d.line)),
-            Made::Stack(stack) => Sizes::Shape(layout::shape_of(w, h, stack), d),
+            Made::Stack(stack) => read_ways(s, d, w, h, stack),
         },
     }
 }
 
-// The lines `width`, `height` and `layers`.
+// The lines `width`, `height` and `layers`, and `dirs` where it stands.
 fn read_sizes(s: &[u8], c: Cursor) -> Sizes
-    requires { ⌜ (c .at ≤ length (now s)) × (c .line < 100) ⌝ }
+    requires { ⌜ (c .at ≤ length (now s)) × (c .line < 40) ⌝ }
     ensures { λ r. ⌜ sizesTold (now (s .entry)) r ≡ sizesIn (placeOf (now (s .entry)) c) ⌝ }
     ensures { λ r. ⌜ sizesHold (length (now (s .entry))) (c .line + 3) r ⌝ }
 {
@@ -126,12 +142,12 @@ fn nets_line(s: &[u8], c: Cursor, order: usize) -> Field
     }
 }
 
-// The lines after `layers`, where the working numbers are as many as the job needs.
+// The lines after `layers` and `dirs`, where the working numbers are as many as the job needs.
 fn read_body(s: &[u8], c: Cursor, w: &mut [u32], order: usize, g: Shape) -> HeadRead
-    requires { ⌜ (c .at ≤ length (now s)) × (c .line ≡ 3) ⌝ }
+    requires { ⌜ (c .at ≤ length (now s)) × (c .line ≡ stackLine (dirsOf (g .k) (g .dirs))) ⌝ }
     requires { ⌜ Shaped g ⌝ }
     requires { ⌜ workingNeed (g .w) (g .h) (g .k) ≤ length (now w) ⌝ }
-    ensures { λ r. ⌜ headTold (now (s .entry)) (now (w .exit)) r ≡ bodyIn g order (placeOf (now (s .entry)) c) ⌝ }
+    ensures { λ r. ⌜ headTold (now (s .entry)) (now (w .exit)) r ≡ bodyIn (sizesOf g) order (placeOf (now (s .entry)) c) ⌝ }
     ensures { λ r. ⌜ headHolds (length (now (s .entry))) order (now (w .entry)) (now (w .exit)) r ⌝ }
     ensures { λ _. ⌜ length (now (w .exit)) ≡ length (now (w .entry)) ⌝ }
 {

@@ -5,6 +5,7 @@ use Prim.Native.Nat.{ℕ, _-_, _*_, _≤_}
 use native.Mathlib.Nat.{mul-le-mul, mul-le-mul-left, mul-le-mul-right}
 use native.Mathlib.Omega.{arith}
 use Rattle.model.specs.Grid.{gridEdges}
+use Rattle.layout.specs.declared.Dirs.{Dirs}
 use Rattle.layout.specs.Shapes.{shapeOf, Shaped, mostTiles}
 
 -- a product of two numbers from 1 to 64
@@ -20,11 +21,11 @@ one-less a b h k = let p : b - 1 ≤ 63 = omega arith in mul-le-mul h p
 some : (a b : ℕ) → 1 ≤ a → 1 ≤ b → 1 ≤ a * b
 some a b h k = mul-le-mul h k
 
-module _ (W H K : ℕ) (w1 : 1 ≤ W) (w2 : W ≤ 64) (h1 : 1 ≤ H) (h2 : H ≤ 64) (k1 : 2 ≤ K) (k2 : K ≤ 8) where
+module _ (W H K : ℕ) (d : Dirs) (w1 : 1 ≤ W) (w2 : W ≤ 64) (h1 : 1 ≤ H) (h2 : H ≤ 64) (k1 : 2 ≤ K) (k2 : K ≤ 8) where
   edges-most : gridEdges W H ≤ 8064
   edges-most = omega (arith, less-one W H w2 h2, one-less W H w2 h2)
 
-  pub shaped : Shaped (shapeOf W H K)
+  pub shaped : Shaped (shapeOf W H K d)
   shaped = record {
     w-least = w1;
     w-most = w2;

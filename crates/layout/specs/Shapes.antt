@@ -9,6 +9,8 @@ use lib.Dec.{ltb}
 use Rattle.model.specs.Grid.{tiles, eastCount, gridEdges}
 use Rattle.model.specs.Limits.{leastSide, mostSide, leastLayers, mostLayers}
 use Rattle.model.specs.Read.{Sizes}
+use Rattle.layout.specs.Dirs.{dirsOf}
+use Rattle.layout.specs.declared.Dirs.{Dirs}
 use Rattle.layout.specs.declared.Made.{Made}
 use Rattle.layout.specs.declared.Made.the-variants.{Stack as stacked, Outside}
 use Rattle.layout.specs.declared.Shape.{Shape}
@@ -18,8 +20,8 @@ use Rattle.layout.specs.declared.Way.{Way}
 abbrev pub stackOf : ℕ → Made
 stackOf k = cond (ltb k leastLayers) Outside (cond (ltb mostLayers k) Outside (stacked (record { layers = k })))
 
-abbrev pub shapeOf : ℕ → ℕ → ℕ → Shape
-shapeOf W H K = record { w = W; h = H; k = K; t = tiles W H; m = tiles W H; east = eastCount W H; e = gridEdges W H }
+abbrev pub shapeOf : ℕ → ℕ → ℕ → Dirs → Shape
+shapeOf W H K d = record { w = W; h = H; k = K; t = tiles W H; m = tiles W H; east = eastCount W H; e = gridEdges W H; dirs = d }
 
 -- the most tiles of a grid
 abbrev pub mostTiles : ℕ
@@ -27,7 +29,7 @@ mostTiles = mostSide * mostSide
 
 -- what the lines of a net are judged by
 abbrev pub sizesOf : Shape → Sizes
-sizesOf g = record { width = g .w; height = g .h; layers = g .k }
+sizesOf g = record { width = g .w; height = g .h; layers = g .k; dirs = dirsOf (g .k) (g .dirs) }
 
 -- a shape of sizes within document 01's limits, and how large its numbers can be
 pub record Shaped (g : Shape) : Type 0 where

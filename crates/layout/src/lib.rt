@@ -1,8 +1,11 @@
 // The stack of layers, the grid of tiles, and where each thing stands in the working numbers.
 ghost use mathlib.Core.Path.{_≡_};
 ghost use Prim.Native.Nat.{ℕ, _+_, _-_, _*_, _<_, _≤_};
-ghost use Rattle.model.specs.Limits.{mostNets};
+ghost use Rattle.model.specs.Job.{runs as runsIn};
+ghost use Rattle.model.specs.Limits.{mostLayers, mostNets};
+ghost use Rattle.model.specs.Lists.{upFrom, bit, any, keep};
 ghost use Rattle.model.specs.Read.{workingNeed};
+ghost use Rattle.layout.specs.Dirs.{dirsOf};
 ghost use Rattle.layout.specs.Shapes.{stackOf, shapeOf, Shaped, wayOf, WayRoom};
 ghost use Rattle.layout.specs.Areas.{loadsAt, demandAt, flatAt, tilesAt, linksAt, chosenAt, listAt, stopsAt, aboveAt, engineAt};
 ghost use lib.ListN.{length, replicate};
@@ -36,10 +39,68 @@ impl Stack {
     }
 }
 
+// Which way each layer runs, where the job says it: bit l - 1 is set where layer l runs north, and clear where it runs east.
+pub enum Dirs {
+    Any,
+    Given(u32),
+}
+
+// Whether a layer, counted from 0, runs the way of the edges that go east (0) or north (1).
+pub fn runs(d: Dirs, way: u32, layer: usize) -> bool
+    requires { ⌜ layer < mostLayers ⌝ }
+    ensures { λ r. ⌜ ((k : ℕ) → layer < k → r ≡ runsIn (dirsOf k d) way (layer + 1)) ⌝ }
+{
+    match d {
+        Dirs::Any => true,
+        Dirs::Given(m) => (m >> (layer as u32)) % 2 == way,
+    }
+}
+
+// Whether some of k layers runs the way of the edges that go east (0) or north (1).
+pub fn has_layer(d: Dirs, way: u32, k: usize) -> bool
+    requires { ⌜ (1 ≤ k) × (k ≤ mostLayers) × (way ≤ 1) ⌝ }
+    ensures { λ r. ⌜ r ≡ any (runsIn (dirsOf k d) way) (upFrom 1 k) ⌝ }
+{
+    match d {
+        Dirs::Any => true,
+        Dirs::Given(m) => {
+            let full = 1u32 << (k as u32);
+            let north = m % full;
+            if way == 0 {
+                return north + 1 < full;
+            }
+            0 < north
+        }
+    }
+}
+
+// 1 where the test holds, and else 0.
+fn one_if(b: bool) -> usize
+    ensures { λ r. ⌜ (r ≡ bit b) × (r ≤ 1) ⌝ }
+{
+    if b {
+        return 1;
+    }
+    0
+}
+
+// How many of k layers run the way of the edges that go east (0) or north (1).
+pub fn layers_in(d: Dirs, way: u32, k: usize) -> usize
+    requires { ⌜ k ≤ mostLayers ⌝ }
+    ensures { λ r. ⌜ r ≡ length (keep (runsIn (dirsOf k d) way) (upFrom 1 k)) ⌝ }
+    ensures { λ r. ⌜ r ≤ k ⌝ }
+{
+    let mut n = 0;
+    for l in 0..k {
+        n += one_if(runs(d, way, l));
+    }
+    n
+}
+
 // The most tiles of a grid.
 pub const TILES: usize = 4096;
 
-// W, H and K; T tiles, room for m places of a walk, the edges that go east, and E edges in all.
+// W, H and K; T tiles, room for m places of a walk, the edges that go east, and E edges in all; which way the layers run.
 pub struct Shape {
     pub w: usize,
     pub h: usize,
@@ -48,11 +109,12 @@ pub struct Shape {
     pub m: usize,
     pub east: usize,
     pub e: usize,
+    pub dirs: Dirs,
 }
 
-pub fn shape_of(w: usize, h: usize, stack: Stack) -> Shape
+pub fn shape_of(w: usize, h: usize, stack: Stack, dirs: Dirs) -> Shape
     requires { ⌜ (1 ≤ w) × (w ≤ 64) × (1 ≤ h) × (h ≤ 64) × (2 ≤ stack .layers) × (stack .layers ≤ 8) ⌝ }
-    ensures { λ r. ⌜ r ≡ shapeOf w h (stack .layers) ⌝ }
+    ensures { λ r. ⌜ r ≡ shapeOf w h (stack .layers) dirs ⌝ }
     ensures { λ r. ⌜ Shaped r ⌝ }
 {
     let east = (w - 1) * h;
@@ -66,6 +128,7 @@ pub fn shape_of(w: usize, h: usize, stack: Stack) -> Shape
         m: tiles,
         east,
         e: east + north,
+        dirs,
     }
 }
 

@@ -3,7 +3,7 @@
 use mathlib.Core.Path.{_≡_, refl}
 use mathlib.Core.Bool.{Bool, _&&_, not}
 use mathlib.Core.List.{List, [], _∷_, _++_}
-use Prim.Native.Nat.{ℕ, suc}
+use Prim.Native.Nat.{ℕ, zero, suc}
 use Prim.Native.String.{String}
 use lib.Dec.{leb, eqb}
 use Rattle.model.specs.Lists.{all}
@@ -40,3 +40,8 @@ number-line-is key p = refl
 pub ranged-is : (key : String) (low high : ℕ) (p : Place) → ranged key low high p ≡ rangedBy (keyBytes key) low high p
 unfolding line ranged numberLineBy rangedBy
 ranged-is key low high p = refl
+
+-- the byte behind an entry of a list after which n more come: a comma, and byte 10 behind the last
+abbrev pub ender : ℕ → ℕ
+ender zero = 10
+ender (suc n) = 44

@@ -2,7 +2,8 @@
 -- Assumes nothing.
 use mathlib.Core.List.{List, [], _∷_}
 use Prim.Native.Nat.{ℕ, _+_, _-_, _*_, _/_}
-use Rattle.model.specs.Job.{Job, allEdges, layersOf, capacity, netEdges}
+use lib.ListN.{length}
+use Rattle.model.specs.Job.{Job, allEdges, layersIn, layersOf, edgesIn, capacity, netEdges}
 use Rattle.model.specs.Lists.{sum, most, same, occurs}
 
 -- "d − c or 0, whichever is larger": the overflow of x nets over a capacity c. The subtraction of numbers stops at 0.
@@ -19,7 +20,7 @@ demand e (n ∷ ns) = occurs e n + demand e ns
 abbrev pub flatDemand : Job → ℕ → ℕ
 flatDemand j e = demand e (netEdges j)
 
--- "c(e) is the sum of an edge's K capacities"
+-- "c(e) is the sum of an edge's K capacities"; a layer that runs the other way has capacity 0 (row 12), so the layers of the edge are enough
 abbrev pub flatCapacity : Job → ℕ → ℕ
 flatCapacity j e = sum (capacity j e) (layersOf j e)
 
@@ -38,9 +39,14 @@ MO j = most (flatOverflow j) (allEdges j)
 unfoldable pub ceilDiv : ℕ → ℕ → ℕ
 ceilDiv o k = (o + (k - 1)) / k
 
--- "MO/K rounded up"
-abbrev pub limit : Job → ℕ
-limit j = ceilDiv (MO j) (j .layers)
+-- the largest flat overflow among the edges of a group: MO itself in a job without `dirs`
+abbrev pub groupMost : Job → ℕ → ℕ
+groupMost j g = most (flatOverflow j) (edgesIn j g)
+
+-- "for each direction, the largest flat overflow among edges of that direction divided by the number of its layers, rounded up, and 0 where it has no
+-- edge or no layer" (a quotient by 0 is 0): in a job without `dirs`, "MO/K rounded up"
+abbrev pub limit : Job → ℕ → ℕ
+limit j g = ceilDiv (groupMost j g) (length (layersIn j g))
 
 -- ---- the layers
 
@@ -67,3 +73,7 @@ totalOverflow j ys = sum (λ e. sum (layerOverflow j ys e) (layersOf j e)) (allE
 
 abbrev pub maxOverflow : Job → List (List ℕ) → ℕ
 maxOverflow j ys = most (λ e. most (layerOverflow j ys e) (layersOf j e)) (allEdges j)
+
+-- the same among the edges of a group: "the mission's third demand has one maximum per direction"
+abbrev pub peak : Job → List (List ℕ) → ℕ → ℕ
+peak j ys g = most (λ e. most (layerOverflow j ys e) (layersOf j e)) (edgesIn j g)

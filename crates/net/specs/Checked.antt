@@ -5,6 +5,7 @@ use mathlib.Core.Path.{_≡_}
 use Prim.Native.Nat.{ℕ, suc, _+_, _≤_, _<_}
 use lib.ListN.{length, getD}
 use Rattle.layout.specs.Areas.{loadsAt, demandAt, areasEnd, tilesOf}
+use Rattle.layout.specs.Dirs.{dirsOf}
 use Rattle.layout.specs.Shapes.{shapeOf, Shaped}
 use Rattle.layout.specs.declared.Shape.{Shape}
 use Rattle.marks.specs.Marks.{Older}
@@ -14,7 +15,8 @@ use Rattle.net.specs.SoFar.{Capacities}
 use Rattle.net.specs.Table.{Table, PinTiles}
 
 pub record Checked (s : List ℕ) (g : Shape) (j : Job) (w table : List ℕ) : Type 0 where
-  pub shape : g ≡ shapeOf (j .width) (j .height) (j .layers)
+  pub shape : g ≡ shapeOf (j .width) (j .height) (j .layers) (g .dirs)
+  pub dirs : dirsOf (g .k) (g .dirs) ≡ j .dirs
   pub shaped : Shaped g
   pub room : areasEnd g ≤ length w
   pub capacities : Capacities g j w

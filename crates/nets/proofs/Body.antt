@@ -1,6 +1,7 @@
 -- The `pins` and `edges` lines of a net, one after the other.
 -- Assumes nothing.
 use mathlib.Core.List.{List, []}
+use mathlib.Core.Option.{Option}
 use mathlib.Core.Path.{_≡_, refl, sym, ap, ap₂, _∙_, subst}
 use Prim.Native.Nat.{ℕ, _+_, _*_, _≤_, _<_}
 use native.Mathlib.Omega.{arith}
@@ -12,6 +13,7 @@ use Rattle.edges.specs.declared.Edges.{Edges}
 use Rattle.edges.specs.declared.EdgesRead.{EdgesRead}
 use Rattle.edges.specs.declared.EdgesRead.the-variants.{Refused as BadEdges}
 use Rattle.layout.specs.Areas.{demandAt, tilesAt, chosenAt, tilesOf}
+use Rattle.layout.specs.Dirs.{dirsOf}
 use Rattle.layout.specs.Parts.{Outside}
 use Rattle.layout.specs.Shapes.{sizesOf, Shaped}
 use Rattle.layout.specs.Table.{tableSize}
@@ -33,7 +35,7 @@ use Rattle.text.specs.declared.Refusal.{Refusal}
 use Rattle.theory.specs.links.Edges.{nearOf}
 use Rattle.theory.specs.links.Nets.{NetOk, tree-of}
 use Rattle.theory.specs.links.Reach.{loOf, hiOf}
-use Rattle.theory.specs.links.Reading.{PinsOk, EdgesOk, gives-found, pins-give, edges-give}
+use Rattle.theory.specs.links.Reading.{PinsOk, EdgesOk, Served, gives-found, pins-give, edges-give}
 use Rattle.theory.specs.links.Scores.{pins-few}
 use Rattle.theory.specs.links.Stacked.{pin-tiles-few}
 use Rattle.theory.specs.walk.GridNet.{net-room}
@@ -45,10 +47,14 @@ use Rattle.nets.proofs.Stand.{pins-stand, row-long, row-others, row-sta
 -- a net whose two lines the definitions found
 net-ok : (g : Shape) (net : Net) (p q r t : Place) → pinsLine (sizesOf g) p ≡ found (net .pins) q → edgesLine (sizesOf g) (net .pins) r ≡ found (net .edges) t → NetOk (g .w) (g .h) (g .k) net
 net-ok g net p q r t a b =
-    go (gives-found (PinsOk (g .w) (g .h) (g .k)) (pinsLine (sizesOf g) p) (net .pins) q a (pins-give (g .w) (g .h) (g .k) p))
-    (gives-found (EdgesOk (g .w) (g .h) (g .k) (net .pins)) (edgesLine (sizesOf g) (net .pins) r) (net .edges) t b (edges-give (g .w) (g .h) (g .k) (net .pins) r))
+    go (gives-found (PinsOk (g .w) (g .h) (g .k) ds) (pinsLine (sizesOf g) p) (net .pins) q a (pins-give (g .w) (g .h) (g .k) ds p))
+    (gives-found (λ es. EdgesOk (g .w) (g .h) (g .k) ds (net .pins) es × Served (g .w) (g .h) (g .k) ds es) (edgesLine (sizesOf g) (net .pins) r) (net .edges) t b
+    (edges-give (g .w) (g .h) (g .k) ds (net .pins) r) .0)
   where
-    go : PinsOk (g .w) (g .h) (g .k) (net .pins) → EdgesOk (g .w) (g .h) (g .k) (net .pins) (net .edges) → NetOk (g .w) (g .h) (g .k) net
+    ds : Option (List ℕ)
+    ds = dirsOf (g .k) (g .dirs)
+
+    go : PinsOk (g .w) (g .h) (g .k) ds (net .pins) → EdgesOk (g .w) (g .h) (g .k) ds (net .pins) (net .edges) → NetOk (g .w) (g .h) (g .k) net
     go x y = record {
       some-pin = x .0;
       pins-inside = x .1;
@@ -175,7 +181,7 @@ module _ (s : List ℕ) (c : Cursor) (g : Shape) (shaped : Shaped g) (i : ℕ) (
         counted = counted;
         row =
             row-stands table i (p .from) (e .from) (p .tiles) first (e .entries) (ready .turn) room s W H K net
-            (subst (λ (m : ℕ). PinsAt s W H K m net) (sym (at .0)) (pins-stand s W H K (c .at) net (c .line) _ (fine .is))) stands tiles-are (line .line .count-is);
+            (subst (λ (m : ℕ). PinsAt s W H K m net) (sym (at .0)) (pins-stand s W H K (c .at) net (c .line) _ (dirsOf (g .k) (g .dirs)) (fine .is))) stands tiles-are (line .line .count-is);
         table-long = row-long table i (p .from) (e .from) (p .tiles) first (e .entries) (ready .turn) room;
         rows-before = row-others table i (p .from) (e .from) (p .tiles) first (e .entries) (ready .turn) room;
       }

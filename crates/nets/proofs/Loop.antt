@@ -8,6 +8,7 @@ use native.Mathlib.Omega.{arith}
 use lib.ListN.{length, getD, drop, length-append, length-take, List·getD-append, List·getD-eq-default}
 use lib.Seq.{getD-append-seam}
 use Rattle.layout.specs.Areas.{demandAt, tilesAt, linksAt, chosenAt}
+use Rattle.layout.specs.Dirs.{dirsOf}
 use Rattle.layout.specs.Parts.{part, part-at}
 use Rattle.layout.specs.Shapes.{sizesOf, Shaped, mostTiles}
 use Rattle.layout.specs.Table.{pinsColumn, edgesColumn, tilesColumn, firstColumn, countColumn}
@@ -24,7 +25,7 @@ use Rattle.text.specs.Refusals.{placeOf}
 use Rattle.text.specs.declared.Cursor.{Cursor}
 use Rattle.text.specs.declared.Refusal.{Refusal}
 use Rattle.theory.specs.links.Nets.{NetOk, EachNet}
-use Rattle.theory.specs.links.Reading.{gives-found, net-gives}
+use Rattle.theory.specs.links.Reading.{NetFine, gives-found, net-gives}
 use Rattle.theory.specs.links.Stretches.{offset}
 use Rattle.nets.specs.Rows.{RowAt}
 use Rattle.nets.specs.Nets.{NetReady, NetFound, SoRead, NetsReady, NetsFound, edgesOf, noNet, ahead}
@@ -136,7 +137,8 @@ module _ (s : List ℕ) (g : Shape) (shaped : Shaped g) where
 
       net-is-ok : NetOk (g .w) (g .h) (g .k) (found-net .net)
       net-is-ok =
-          gives-found (NetOk (g .w) (g .h) (g .k)) (netLines (sizesOf g) (i + 1) p) net (placeOf s c) (found-net .is) (net-gives (g .w) (g .h) (g .k) (i + 1) p)
+          let ds = dirsOf (g .k) (g .dirs) in
+          gives-found (NetFine (g .w) (g .h) (g .k) ds) (netLines (sizesOf g) (i + 1) p) net (placeOf s c) (found-net .is) (net-gives (g .w) (g .h) (g .k) ds (i + 1) p) .0
 
       rows-more : (k : ℕ) → k < length (ns ++ (found-net .net ∷ []))
           → RowAt s (g .w) (g .h) (g .k) table′ k (offset (edgesOf (ns ++ (found-net .net ∷ []))) k) (getD (ns ++ (found-net .net ∷ [])) k noNet)

@@ -2,7 +2,7 @@
 -- Assumes nothing.
 use mathlib.Core.Bool.{Bool, true, false, cond}
 use mathlib.Core.List.{List, map}
-use mathlib.Core.Option.{none, some}
+use mathlib.Core.Option.{Option, none, some}
 use mathlib.Core.Path.{_≡_, refl, sym, ap, _∙_}
 use Prim.Native.Nat.{ℕ, suc, _+_, _*_, _≤_, _<_}
 use native.Mathlib.Omega.{arith}
@@ -40,10 +40,12 @@ module _ (s : List ℕ) (W H K at : ℕ) (net : Net) (n : ℕ) (q : Place) where
   stand-keyed true e = stand-lined (pinsOf (drop 5 (drop at s))) (ap pinsOf (sym (drop-drop 5 at s))) e
   stand-keyed false e = absurd (let y : _≡_ {A = ℕ} 0 1 = cc in omega arith)
 
-  pub pins-stand : pinsLine (record { width = W; height = H; layers = K }) (record { line = n; rest = drop at s }) ≡ found (net .pins) q → PinsAt s W H K (at + 5) net
-  pins-stand e =
+  -- the pins that the line gives stand behind its key, whatever the directions
+  pub pins-stand : (ds : Option (List ℕ)) → pinsLine (record { width = W; height = H; layers = K; dirs = ds }) (record { line = n; rest = drop at s }) ≡ found (net .pins) q
+      → PinsAt s W H K (at + 5) net
+  pins-stand ds e =
       stand-keyed (startsWith (bytes "pins=") (drop at s))
-      (ap (onKey W H K (suc n)) (sym (behind-is (bytes "pins=") (drop at s))) ∙ sym (pins-law (record { width = W; height = H; layers = K }) n (drop at s)) ∙ e)
+      (ap (onKey W H K (suc n)) (sym (behind-is (bytes "pins=") (drop at s))) ∙ sym (pins-law (record { width = W; height = H; layers = K; dirs = ds }) n (drop at s)) ∙ e)
 
 -- ---- the row
 

@@ -10,12 +10,12 @@ use Rattle.layout.specs.declared.Shape.{Shape}
 use Rattle.marks.specs.Marks.{Older}
 use Rattle.model.specs.Demand3.{planIn}
 use Rattle.model.specs.Job.{Job, netCount, entryCount}
-use Rattle.model.specs.Overflow.{limit}
 use Rattle.model.specs.Plan.{plan, totalVias}
 use Rattle.model.specs.Read.{Lent}
 use Rattle.net.specs.SoFar.{SoFar}
 use Rattle.net.specs.Table.{Table, TurnsIn}
 use Rattle.net.specs.Held.{Held}
+use Rattle.theory.specs.links.Flat.{limitAt}
 use Rattle.theory.specs.links.Reading.{Accepted}
 use Rattle.turn.specs.Turn.{Turn, OfJob, turnLimit, turnLayers, turnPlan, turnVias}
 use Rattle.placing.specs.declared.NetRow.{NetRow}
@@ -60,7 +60,7 @@ pub record Start (s : List ℕ) (g : Shape) (n : ℕ) (m : ℕ → ℕ) (w table
   pub accepted : Accepted lent j
   pub grid : OfJob g j
   pub count : n ≡ netCount j
-  pub limit-is : (e : ℕ) → m e ≡ limit j
+  pub limit-is : (e : ℕ) → m e ≡ limitAt j e
   pub so-far : SoFar g j (replicate (netCount j) []) w
   pub older : Older (suc n) (tilesOf g w)
   pub rows : Table s j table

@@ -1,23 +1,24 @@
 -- From the checked text to the scored job, and from there to the plan.
 -- Assumes nothing.
-use mathlib.Core.List.{List}
+use mathlib.Core.List.{List, []}
 use mathlib.Core.Logic.{inr}
 use mathlib.Core.Path.{_≡_, sym, ap, ap₂, _∙_}
-use Prim.Native.Nat.{ℕ, _+_, _-_, _*_, _≤_, _<_}
+use Prim.Native.Nat.{ℕ, _+_, _-_, _*_, _≤_, _<_, max}
 use native.Mathlib.Omega.{arith}
-use lib.ListN.{length, getD}
+use lib.ListN.{length, getD, replicate}
 use lib.Seq.{sets}
 use Rattle.head.specs.declared.Head.{Head}
 use Rattle.layout.specs.Areas.{loadsAt, demandAt, flatAt, tilesAt, areasEnd, edge-room, tilesOf}
 use Rattle.layout.specs.Parts.{Outside, part-outside}
 use Rattle.layout.specs.Shapes.{Shaped}
 use Rattle.layout.specs.declared.Shape.{Shape}
+use Rattle.model.specs.Grid.{eastCount}
 use Rattle.model.specs.Job.{Job, netCount, edgeCount, entryCount}
 use Rattle.model.specs.Limits.{mostNets}
-use Rattle.model.specs.Overflow.{limit, ceilDiv}
+use Rattle.model.specs.Overflow.{limit}
 use Rattle.model.specs.Plan.{plan}
 use Rattle.model.specs.Read.{Lent, printNeed}
-use Rattle.net.specs.SoFar.{Capacities}
+use Rattle.net.specs.SoFar.{Capacities, SoFar}
 use Rattle.net.specs.Table.{PinTiles}
 use Rattle.order.specs.Ready.{Ready, SomeJob, Scored, ready-checked}
 use Rattle.order.specs.declared.Weights.{Weights}
@@ -26,12 +27,17 @@ use Rattle.net.specs.Held.{Held}
 use Rattle.print.specs.Handed.{Handed, plan-rows, plan-text, plan-fits, plan-overwrites}
 use Rattle.print.specs.Texts.{planText, Rows}
 use Rattle.reader.specs.Whole.{JobFound}
+use Rattle.theory.specs.links.Closed.{capacity-all}
 use Rattle.theory.specs.links.Limits.{demand-small, capacity-small, maximum-small}
-use Rattle.theory.specs.links.Planned.{plan-meets, plan-maximum}
+use Rattle.theory.specs.links.Meets.{plan-largest}
+use Rattle.theory.specs.links.Planned.{plan-meets}
 use Rattle.theory.specs.links.Reading.{Accepted, accepted}
-use Rattle.flat.specs.FlatPlan.{FlatCapacities, FlatDemands, Overflows, so-far-first}
+use Rattle.flat.specs.FlatPlan.{AllCounted, FlatCapacities, FlatDemands, Overflows, so-far-first}
+use Rattle.flat.specs.Limited.{limitsOf, limitAt, LimitsAre, limits-are}
 use Rattle.net.specs.Places.{SmallCapacities, small-capacities}
 use Rattle.flat.specs.declared.Flat.{Flat}
+use Rattle.flat.specs.declared.Limits.{Limits}
+use Rattle.tracks.specs.Shut.{Closed, first-loads, first-closed}
 use Rattle.turn.specs.Turn.{of-job}
 use Rattle.planning.specs.Closing.{Turned, PlanMade, PrintMade}
 use Rattle.planning.specs.Opening.{Given, OpenFound}
@@ -56,10 +62,10 @@ module _ (s : List ℕ) (lent : Lent) (w table : List ℕ) (h : Head) (k : JobFo
   small = small-capacities (h .shape) (k .job) w (k .checked .capacities) (capacity-small lent (k .job) job-accepted)
 
   -- its flat capacities are in their place
-  module _ (w₁ : List ℕ) (flat : (i : Job) → Capacities (h .shape) i w → h .shape .k ≡ i .layers → FlatCapacities (h .shape) i w₁)
+  module _ (w₁ : List ℕ) (flat : (i : Job) → Capacities (h .shape) i w → h .shape .k ≡ i .layers → AllCounted i → FlatCapacities (h .shape) i w₁)
       (out : Outside (flatAt (h .shape)) (h .shape .e) w w₁) where
     flat-here : FlatCapacities (h .shape) (k .job) w₁
-    flat-here = flat (k .job) (k .checked .capacities) layers-are
+    flat-here = flat (k .job) (k .checked .capacities) layers-are (capacity-all lent (k .job) job-accepted)
 
     pub still-room : tilesAt (h .shape) ≤ length w₁
     still-room = omega (arith, out .long, flat-room)
@@ -78,6 +84,7 @@ module _ (s : List ℕ) (lent : Lent) (w table : List ℕ) (h : Head) (k : JobFo
     given = record {
       accepted = job-accepted;
       shape = k .checked .shape;
+      dirs = k .checked .dirs;
       shaped = shaped;
       room = omega (arith, out .long, k .checked .room);
       capacities = record { caps = λ e l b x y. out .low (e * h .shape .k + (l - 1)) (omega (arith, edge-room (h .shape) e b)) ∙ k .checked .capacities .caps e l b x y };
@@ -105,6 +112,9 @@ module _ (s : List ℕ) (h : Head) (w table : List ℕ) (size : ℕ) (lent : Len
   abbrev g : Shape
   g = h .shape
 
+  border-is : h .shape .east ≡ eastCount (j .width) (j .height)
+  border-is = ap (λ (x : Shape). x .east) (at .given .shape)
+
   edges-are : h .shape .e ≡ edgeCount j
   edges-are = ap (λ (x : Shape). x .e) (at .given .shape)
 
@@ -126,27 +136,56 @@ module _ (s : List ℕ) (h : Head) (w table : List ℕ) (size : ℕ) (lent : Len
     pub few-most : r .most ≤ mostNets
     few-most = omega (arith, overflows-here .most, maximum-small lent j (at .given .accepted), at .given .accepted .net-count)
 
-    pub all-room : areasEnd (h .shape) ≤ length w₁
-    all-room = omega (arith, out .long, at .given .room)
+    pub few-over : (e : ℕ) → e < h .shape .e → getD w₁ (demandAt (h .shape) + e) 0 ≤ mostNets
+    few-over e b = omega (arith, overflows-here .each e b, demand-small lent j (at .given .accepted) e, at .given .accepted .net-count)
 
-    pub limit-told : (m : ℕ) → m ≡ ceilDiv (r .most) (h .shape .k) → m ≡ limit j
-    limit-told m m-is = m-is ∙ ap₂ ceilDiv (overflows-here .most) (ap (λ (x : Shape). x .k) (at .given .shape))
+    pub flat-room-still : flatAt (h .shape) ≤ length w₁
+    flat-room-still = omega (arith, out .long, at .given .room)
 
-    tiles-kept : tilesOf (h .shape) w₁ ≡ tilesOf (h .shape) w
-    tiles-kept = part-outside (demandAt g) (g .e) w w₁ out (tilesAt g) (g .t) (inr (omega arith))
+    -- the limits are those of the definitions
+    pub limits-told : LimitsAre j (limitsOf (h .shape) w₁ (r .most))
+    limits-told =
+        limits-are g j w₁ (r .most) (overflows-here .each) (overflows-here .most) (ap (λ (x : Shape). x .k) (at .given .shape)) edges-are border-is (at .given .shaped .east-most) (at .given .dirs)
 
-    pub placing-starts : (m : ℕ → ℕ) → ((e : ℕ) → m e ≡ ceilDiv (r .most) (h .shape .k)) → Start s (h .shape) (h .nets) m w₁ table size lent j
-    placing-starts m m-is = record {
-      accepted = at .given .accepted;
-      grid = of-job g j (at .given .shape);
-      count = at .given .count;
-      limit-is = λ e. limit-told (m e) (m-is e);
-      so-far = so-far-first g j w (at .given .capacities) (at .given .loads) w₁ r overflows-here out;
-      older = λ t. omega (arith, ap (λ (l : List ℕ). getD l t 0) tiles-kept, at .given .marks t);
-      rows = at .rows;
-      turns-are = at .turns;
-      room = at .room;
-    }
+    -- and the layers that run the other way are closed
+    module _ (w₂ : List ℕ) (shut : Closed (h .shape) w₁ w₂) where
+      pub all-room : areasEnd (h .shape) ≤ length w₂
+      all-room = omega (arith, shut .outside .long, out .long, at .given .room)
+
+      tiles-kept : tilesOf (h .shape) w₂ ≡ tilesOf (h .shape) w
+      tiles-kept =
+          part-outside (loadsAt g) (loadsAt g) w₁ w₂ (shut .outside) (tilesAt g) (g .t) (inr (omega arith))
+          ∙ part-outside (demandAt g) (g .e) w w₁ out (tilesAt g) (g .t) (inr (omega arith))
+
+      first : SoFar (h .shape) j (replicate (netCount j) []) w₂
+      first =
+          so-far-first g j w₂ (record {
+            caps = λ e l b x y.
+                shut .outside .low (e * g .k + (l - 1)) (omega (arith, edge-room g e b))
+                ∙ out .low (e * g .k + (l - 1)) (omega (arith, edge-room g e b))
+                ∙ at .given .capacities .caps e l b x y;
+          })
+          (first-loads g j w₁ w₂ shut (at .given .dirs) border-is empty) (first-closed g j w₁ w₂ shut (at .given .dirs) border-is empty)
+          (λ e b. shut .outside .high (demandAt g + e) (omega arith) ∙ overflows-here .each e b)
+        where
+          empty : (i : ℕ) → i < loadsAt (h .shape) → getD w₁ (loadsAt (h .shape) + i) 0 ≡ 0
+          empty i b = out .low (loadsAt g + i) (omega arith) ∙ at .given .loads i b
+
+      pub placing-starts : (m : Limits) → m ≡ limitsOf (h .shape) w₁ (r .most) → Start s (h .shape) (h .nets) (limitAt m) w₂ table size lent j
+      placing-starts m m-is = record {
+        accepted = at .given .accepted;
+        grid = of-job g j (at .given .shape);
+        count = at .given .count;
+        limit-is = λ e. ap (λ (x : Limits). limitAt x e) m-is ∙ limits-told .each e;
+        so-far = first;
+        older = λ t. omega (arith, ap (λ (l : List ℕ). getD l t 0) tiles-kept, at .given .marks t);
+        rows = at .rows;
+        turns-are = at .turns;
+        room = at .room;
+      }
+
+      pub largest-told : (m : Limits) (v : ℕ) → m ≡ limitsOf (h .shape) w₁ (r .most) → v ≡ max (m .east) (m .north) → v ≡ max (limit j 0) (limit j 1)
+      largest-told m v m-is v-is = v-is ∙ ap (λ (x : Limits). max (x .east) (x .north)) m-is ∙ limits-told .largest
 
 -- ---- a plan that is made
 
@@ -163,7 +202,7 @@ module _ (s : List ℕ) (h : Head) (w table answer answer′ table′ : List ℕ
     turns = λ k b. made .placed .turns-are k (omega (arith, at .given .count));
     vias-told = made .placed .vias-are;
     total-told = made .total-is ∙ sym (plan-meets lent j acc .least-total);
-    most-told = made .maximum-is ∙ sym (plan-maximum lent j acc);
+    most-told = made .maximum-is ∙ sym (plan-largest lent j acc);
   }
 
   pub rows-there : Rows (h .nets) table′ answer′

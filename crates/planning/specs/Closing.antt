@@ -2,7 +2,7 @@
 -- Assumes nothing.
 use mathlib.Core.List.{List}
 use mathlib.Core.Path.{_≡_}
-use Prim.Native.Nat.{ℕ, _≤_}
+use Prim.Native.Nat.{ℕ, _≤_, max}
 use lib.ListN.{length}
 use Rattle.head.specs.declared.Head.{Head}
 use Rattle.model.specs.Calls.{overwrite}
@@ -55,7 +55,7 @@ ToPrint s w table size bytes (Refused r) = Unit {0}
 pub record PlanMade (j : Job) (answer answer′ table′ : List ℕ) (t : Totals) : Type 0 where
   pub placed : AllPlaced j answer answer′ table′ (t .vias)
   pub total-is : t .total ≡ TO j
-  pub maximum-is : t .maximum ≡ limit j
+  pub maximum-is : t .maximum ≡ max (limit j 0) (limit j 1)
 
 -- what Plan returns for an opened job
 pub record PlanDone (s : List ℕ) (h : Head) (w table answer answer′ : List ℕ) (r : Planned) : Type 0 where

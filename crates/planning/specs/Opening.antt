@@ -6,6 +6,7 @@ use Prim.Native.Nat.{ℕ, suc, _≤_}
 use lib.ListN.{length}
 use Rattle.head.specs.declared.Head.{Head}
 use Rattle.layout.specs.Areas.{areasEnd, tilesOf}
+use Rattle.layout.specs.Dirs.{dirsOf}
 use Rattle.layout.specs.Shapes.{shapeOf, Shaped}
 use Rattle.lines.specs.Told.{refusedBy}
 use Rattle.marks.specs.Marks.{Older}
@@ -21,7 +22,8 @@ use Rattle.planning.specs.declared.Opened.the-variants.{Job as Read-as, 
 -- the working numbers hold the flat plan of the accepted job j, and no net is placed
 pub record Given (h : Head) (w : List ℕ) (lent : Lent) (j : Job) : Type 0 where
   pub accepted : Accepted lent j
-  pub shape : h .shape ≡ shapeOf (j .width) (j .height) (j .layers)
+  pub shape : h .shape ≡ shapeOf (j .width) (j .height) (j .layers) (h .shape .dirs)
+  pub dirs : dirsOf (h .shape .k) (h .shape .dirs) ≡ j .dirs
   pub shaped : Shaped (h .shape)
   pub room : areasEnd (h .shape) ≤ length w
   pub capacities : Capacities (h .shape) j w

@@ -121,7 +121,8 @@ fn place_nets(s: &[u8], h: Head, w: &mut [u32], table: &mut [u32], answer: &mut 
 {
     let shape = h.shape;
     let flat = flat::overflows(w, shape);
-    let limits = flat::limits_of(flat.most, shape.k);
+    let limits = flat::limits_of(w, shape, flat.most);
+    tracks::close_layers(w, shape);
     let mut chart = [0u32; 256];
     sets::fill_chart(&mut chart);
     let job = ToPlace {

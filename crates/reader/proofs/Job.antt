@@ -16,6 +16,7 @@ use Rattle.head.specs.declared.Head.{Head}
 use Rattle.head.specs.declared.HeadRead.{HeadRead}
 use Rattle.head.specs.declared.HeadRead.the-variants.{Head as headed, Refused as Unheaded}
 use Rattle.layout.specs.Areas.{loadsAt, demandAt, areasEnd, edge-room}
+use Rattle.layout.specs.Dirs.{dirsOf}
 use Rattle.layout.specs.Shapes.{shapeOf, Shaped}
 use Rattle.layout.specs.Table.{tableSize}
 use Rattle.layout.specs.declared.Shape.{Shape}
@@ -62,8 +63,17 @@ columns-same k n w v h l (suc m) b =
 capacities-same : (g : Shape) (w v : List ℕ) → ((i : ℕ) → i < loadsAt g → getD v i 0 ≡ getD w i 0) → capacitiesOf g v ≡ capacitiesOf g w
 capacities-same g w v h = columns-same (g .k) (g .e) w v (λ i b. h i (omega (arith, mul-comm (g .e) (g .k)))) 0 (g .k) (omega arith)
 
-shape-is : (g : Shape) → Shaped g → g ≡ shapeOf (g .w) (g .h) (g .k)
-shape-is g shaped i = record { w = g .w; h = g .h; k = g .k; t = shaped .t-is i; m = (shaped .m-is ∙ shaped .t-is) i; east = shaped .east-is i; e = shaped .e-is i }
+shape-is : (g : Shape) → Shaped g → g ≡ shapeOf (g .w) (g .h) (g .k) (g .dirs)
+shape-is g shaped i = record {
+  w = g .w;
+  h = g .h;
+  k = g .k;
+  t = shaped .t-is i;
+  m = (shaped .m-is ∙ shaped .t-is) i;
+  east = shaped .east-is i;
+  e = shaped .e-is i;
+  dirs = g .dirs;
+}
 
 module _ (s : List ℕ) (order : ℕ) (w : List ℕ) (w₁ : List ℕ) (r : HeadRead)
     (told : headTold s w₁ r ≡ headIn (length s) (length w) order (record { line = 0; rest = s })) (answer : ℕ) (print : PrintRoom) where
@@ -108,7 +118,7 @@ module _ (s : List ℕ) (order : ℕ) (w : List ℕ) (w₁ : List ℕ) (r : Head
       read-on : read (lentBy (length w) order answer print) s ≡ restIn (lentBy (length w) order answer print) (headJob h v) (placeOf s c)
       read-on =
           read-head-on
-          ∙ ap (λ (cs : List (List ℕ)). restIn lent (record { width = h .shape .w; height = h .shape .h; layers = h .shape .k; alpha = h .alpha; beta = h .beta; gamma = h .gamma; capacities = cs; nets = h .nets }) (placeOf s c))
+          ∙ ap (λ (cs : List (List ℕ)). restIn lent (record { width = h .shape .w; height = h .shape .h; layers = h .shape .k; dirs = dirsOf (h .shape .k) (h .shape .dirs); alpha = h .alpha; beta = h .beta; gamma = h .gamma; capacities = cs; nets = h .nets }) (placeOf s c))
           (sym (capacities-same (h .shape) w₁ v (cleared .low)))
 
       -- the rest after the head
@@ -152,6 +162,7 @@ module _ (s : List ℕ) (order : ℕ) (w : List ℕ) (w₁ : List ℕ) (r : Head
             is = read-on ∙ found-rest .is (length w) order;
             checked = record {
               shape = shape-is (h .shape) (head-holds .shaped);
+              dirs = refl;
               shaped = head-holds .shaped;
               room = omega (arith, areas-fit, cleared .long, so .long);
               capacities = capacities-are;

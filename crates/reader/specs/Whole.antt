@@ -11,6 +11,7 @@ use Rattle.capacities.specs.Capacities.{capacitiesOf}
 use Rattle.head.specs.Reads.{restIn}
 use Rattle.head.specs.Told.{headJob}
 use Rattle.head.specs.declared.Head.{Head}
+use Rattle.layout.specs.Dirs.{dirsOf}
 use Rattle.layout.specs.Shapes.{sizesOf}
 use Rattle.lines.specs.Told.{refusedBy}
 use Rattle.model.specs.Job.{Net, Job, netCount, entryCount}
@@ -45,6 +46,7 @@ jobOf h w ns = record {
   width = h .shape .w;
   height = h .shape .h;
   layers = h .shape .k;
+  dirs = dirsOf (h .shape .k) (h .shape .dirs);
   alpha = h .alpha;
   beta = h .beta;
   gamma = h .gamma;

@@ -6,7 +6,7 @@ use lib.ListN.{drop}
 use Rattle.model.specs.Read.{Place}
 use Rattle.text.specs.declared.Cursor.{Cursor}
 use Rattle.text.specs.declared.Fault.{Fault}
-use Rattle.text.specs.declared.Fault.the-variants.{Form, Range, Turn, PinTwice, EdgeTwice, Ring, Apart}
+use Rattle.text.specs.declared.Fault.the-variants.{Form, Range, Turn, PinTwice, EdgeTwice, Ring, Apart, Closed, NoLayer}
 use Rattle.text.specs.declared.Refusal.{Refusal}
 use Rattle.text.specs.declared.Refusal.the-variants.{TooLong, Line, Working, Order, Short}
 
@@ -14,7 +14,7 @@ use Rattle.text.specs.declared.Refusal.the-variants.{TooLong, Line, Work
 abbrev pub placeOf : List ℕ → Cursor → Place
 placeOf s c = record { line = c .line; rest = drop (c .at) s }
 
--- document 01's number for a fault of a line
+-- the papers' number for a fault of a line
 abbrev pub faultNumber : Fault → ℕ
 faultNumber Form = 2
 faultNumber Range = 3
@@ -23,8 +23,10 @@ faultNumber PinTwice = 5
 faultNumber EdgeTwice = 6
 faultNumber Ring = 7
 faultNumber Apart = 8
+faultNumber Closed = 12
+faultNumber NoLayer = 13
 
--- document 01's number and line for each refusal
+-- the papers' number and line for each refusal
 abbrev pub numberOf : Refusal → ℕ
 numberOf TooLong = 1
 numberOf (Line f l) = faultNumber f

@@ -25,6 +25,8 @@ pub enum Fault {
     EdgeTwice,
     Ring,
     Apart,
+    Closed,
+    NoLayer,
 }
 
 // What refuses a job: its number and its line are `numberOf` and `lineOf`.
@@ -326,8 +328,8 @@ fn short_edge(s: &[u8], at: usize) -> Entry
     way_in(s, x, y, q)
 }
 
-// The same with numbers of any length.
-fn long_edge(s: &[u8], at: usize) -> Entry
+// The same with numbers of any length: all that an entry can be.
+pub fn long_edge(s: &[u8], at: usize) -> Entry
     ensures { λ r. ⌜ r ≡ edgeEntryAt (now (s .entry)) at ⌝ }
 {
     let Numeral::Value(x, p) = with_comma(s, at) else {
@@ -396,10 +398,12 @@ fn fault_number(f: Fault) -> usize
         Fault::EdgeTwice => 6,
         Fault::Ring => 7,
         Fault::Apart => 8,
+        Fault::Closed => 12,
+        Fault::NoLayer => 13,
     }
 }
 
-// Document 01's number for a refusal.
+// The papers' number for a refusal.
 pub fn number_of(r: Refusal) -> usize
     ensures { λ n. ⌜ n ≡ numberOf r ⌝ }
 {

@@ -1,33 +1,24 @@
 -- One edge's layers: the mask of the legal ones, and one more net on a layer, at the places that the code finds.
 -- Assumes nothing.
-use mathlib.Core.Bool.{Bool, true, false, cond}
 use mathlib.Core.List.{List}
 use mathlib.Core.Path.{_≡_, sym, ap, _∙_, subst}
 use Prim.Native.Nat.{ℕ, _+_, _-_, _*_, _^_, _≤_, _<_}
 use native.Mathlib.Omega.{arith}
-use lib.Dec.{ltb}
 use lib.ListN.{getD, set}
 use Rattle.layout.specs.Areas.{loadsAt, demandAt}
 use Rattle.layout.specs.declared.Shape.{Shape}
 use Rattle.model.specs.Limits.{mostNets}
-use Rattle.tracks.specs.Legal.{roomOf, openIn, legalMask, mask-small}
+use Rattle.tracks.specs.Legal.{roomOf, room-most, openIn, legalMask, mask-small}
 use Rattle.tracks.specs.Masks.{bitsUp}
 use Rattle.tracks.specs.Occupied.{fullOf, loadPlace, capPlace, occupied, Free, full-fits}
 use Rattle.net.specs.Places.{SmallCapacities}
-
-pub room-small : (left m : ℕ) → roomOf left m ≤ m
-room-small left m = go (ltb 0 left)
-  where
-    go : (q : Bool) → cond q m 0 ≤ m
-    go true = omega arith
-    go false = omega arith
 
 module _ (g : Shape) (w : List ℕ) (e m caps loads demand : ℕ) (caps-is : caps ≡ e * g .k) (loads-is : loads ≡ loadsAt g) (demand-is : demand ≡ demandAt g)
     (room : ℕ) (room-is : room ≡ roomOf (getD w (demand + e) 0) m) where
   pub mask-fits : e < g .e → m ≤ mostNets → SmallCapacities g w → (i : ℕ) → i < g .k → getD w (caps + i) 0 + room < 2 ^ 32
   mask-fits h l s i b =
       let p : getD w (caps + i) 0 ≡ getD w (e * g .k + i) 0 = ap (λ (a : ℕ). getD w (a + i) 0) caps-is in
-      omega (arith, p, s e i h b, room-is, room-small (getD w (demand + e) 0) m)
+      omega (arith, p, s e i h b, room-is, room-most (getD w (demand + e) 0) m)
 
   pub mask-is : g .k ≤ 8 → (r : ℕ) → r ≡ bitsUp (openIn w caps (loads + caps) room) 0 (g .k) → (r ≡ legalMask g w e m) × (r < 256)
   unfolding legalMask

@@ -7,21 +7,21 @@ use mathlib.Core.Path.{_≡_, refl, sym, ap, ap₂, _∙_, subst, fun-ext}
 use Prim.Native.Nat.{ℕ, _+_, _-_, _*_, _≤_, _<_}
 use native.Mathlib.Omega.{arith}
 use borrow.Author.Tests.{leb-true, leb-false}
-use lib.Dec.{leb}
+use lib.Dec.{T, leb}
 use lib.ListN.{length, getD, set, length-set}
 use lib.Seq.{getD-set-same, getD-set-other}
 use Rattle.layout.specs.Areas.{loadsAt, demandAt}
 use Rattle.layout.specs.declared.Shape.{Shape}
-use Rattle.model.specs.Job.{Job, layersOf, capacity}
+use Rattle.model.specs.Job.{Job, runs, group, layersOf, capacity}
 use Rattle.model.specs.Legal.{sumOver, put}
 use Rattle.model.specs.Limits.{mostNets}
 use Rattle.model.specs.Lists.{bit, same}
 use Rattle.model.specs.Overflow.{over}
 use Rattle.net.specs.SoFar.{SoFarWith}
-use Rattle.theory.specs.congestion.Base.{upFrom-once, in-upFrom}
 use Rattle.theory.specs.congestion.Edge.{Legal, sum-over-put}
 use Rattle.theory.specs.congestion.Loads.{mark-one, mark-none}
 use Rattle.theory.specs.congestion.Sums.{same-cases, same-refl, sum-eq}
+use Rattle.theory.specs.links.Layers.{layers-once, layers-in}
 use Rattle.net.specs.Places.{edge-room, apart}
 
 -- 1 where a layer is full
@@ -103,18 +103,18 @@ left-next a c left s t o p q h = go (leb c a) refl
     go false e = omega (arith, leb-false c a e)
 
 module _ (g : Shape) (j : Job) (o : ℕ → ℕ) (x : ℕ → ℕ → ℕ) (w : List ℕ) (s : SoFarWith g j o x w) (layers : g .k ≡ j .layers) (e l m : ℕ) (edge : e < g .e) (low : 1 ≤ l)
-    (high : l ≤ g .k) (good : Legal (layersOf j e) (capacity j e) (x e) m (o e) l) where
+    (high : l ≤ g .k) (along : runs (j .dirs) (group j e) l ≡ true) (good : Legal (layersOf j e) (capacity j e) (x e) m (o e) l) where
   -- the overflows of the edge with one more net on the layer
   more : sumOver (layersOf j e) (capacity j e) (put l (x e)) + over (capacity j e l) (x e l) ≡ sumOver (layersOf j e) (capacity j e) (x e) + over (capacity j e l) (x e l + 1)
   more =
       sum-over-put (layersOf j e) (capacity j e) (x e) l
-      (omega (arith, upFrom-once l 1 (j .layers), in-upFrom l 1 (j .layers) .1 (low, omega arith)))
+      (omega (arith, layers-once j (group j e) l, layers-in j (group j e) l low (omega arith) (subst T (sym along) tt)))
 
   -- a legal layer can take one more net
   pub legal-free : x e l ≤ mostNets → Free g w e l
   legal-free few = record {
-    few = omega (arith, s .loads e l edge low high);
-    left = λ h. omega (arith, s .loads e l edge low high, s .capacities .caps e l edge low high, s .left e edge, more, good .whole);
+    few = omega (arith, s .loads e l edge low high along);
+    left = λ h. omega (arith, s .loads e l edge low high along, s .capacities .caps e l edge low high, s .left e edge, more, good .whole);
   }
 
   -- and with it the numbers hold one net more there
@@ -123,7 +123,8 @@ module _ (g : Shape) (j : Job) (o : ℕ → ℕ) (x : ℕ → ℕ → ℕ) (w : 
     capacities = record {
       caps = λ a b h p q. kept (capPlace g a b) (λ r. omega (arith, edge-room g a h)) (λ r. omega (arith, edge-room g a h)) ∙ s .capacities .caps a b h p q;
     };
-    loads = λ a b h p q. load-at a b h p q (same-cases a e) (same-cases l b);
+    loads = λ a b h p q r. load-at a b h p q r (same-cases a e) (same-cases l b);
+    closed = λ a b h p q r. omega (arith, s .closed a b h p q r, closed-at a b h p q r (same-cases a e) (same-cases l b));
     left = λ a h. left-at a h (same-cases a e);
   }
     where
@@ -134,31 +135,33 @@ module _ (g : Shape) (j : Job) (o : ℕ → ℕ) (x : ℕ → ℕ → ℕ) (w : 
       under : (a b i : ℕ) → a < g .e → 1 ≤ b → b ≤ g .k → loadPlace g a b ≢ demandAt g + i
       under a b i h p q r = omega (arith, edge-room g a h)
 
-      other : (a b : ℕ) → a < g .e → 1 ≤ b → b ≤ g .k → (a ≢ e) ⊎ (b - 1 ≢ l - 1) → same a e * same l b ≡ 0
-          → getD (occupied g w e l) (loadPlace g a b) 0 ≡ x a b + same a e * same l b
-      other a b h p q n z =
-          omega (
-            arith,
-            kept (loadPlace g a b) (λ r. apart (g .k) a e (b - 1) (l - 1) (omega arith) (omega arith) n (omega arith)) (under a b e h p q),
-            s .loads a b h p q,
-          )
+      -- the nets of another layer are as they were
+      other : (a b : ℕ) → a < g .e → 1 ≤ b → b ≤ g .k → (a ≢ e) ⊎ (b - 1 ≢ l - 1) → getD (occupied g w e l) (loadPlace g a b) 0 ≡ getD w (loadPlace g a b) 0
+      other a b h p q n = kept (loadPlace g a b) (λ r. apart (g .k) a e (b - 1) (l - 1) (omega arith) (omega arith) n (omega arith)) (under a b e h p q)
 
-      load-at : (a b : ℕ) → a < g .e → 1 ≤ b → b ≤ g .k → ((a ≡ e) × (same a e ≡ 1)) ⊎ ((a ≢ e) × (same a e ≡ 0))
+      closed-at : (a b : ℕ) → a < g .e → 1 ≤ b → b ≤ g .k → runs (j .dirs) (group j a) b ≡ false → ((a ≡ e) × (same a e ≡ 1)) ⊎ ((a ≢ e) × (same a e ≡ 0))
+          → ((l ≡ b) × (same l b ≡ 1)) ⊎ ((l ≢ b) × (same l b ≡ 0)) → getD (occupied g w e l) (loadPlace g a b) 0 ≡ getD w (loadPlace g a b) 0
+      closed-at a b h p q r (inl c) (inl d) = absurd (subst T (sym along ∙ (λ k. runs (j .dirs) (group j (sym (c .0) k)) (d .0 k)) ∙ r) tt)
+      closed-at a b h p q r (inl c) (inr d) = other a b h p q (inr (λ t. d .0 (omega arith)))
+      closed-at a b h p q r (inr c) d = other a b h p q (inl (c .0))
+
+      load-at : (a b : ℕ) → a < g .e → 1 ≤ b → b ≤ g .k → runs (j .dirs) (group j a) b ≡ true → ((a ≡ e) × (same a e ≡ 1)) ⊎ ((a ≢ e) × (same a e ≡ 0))
           → ((l ≡ b) × (same l b ≡ 1)) ⊎ ((l ≢ b) × (same l b ≡ 0)) → getD (occupied g w e l) (loadPlace g a b) 0 ≡ x a b + same a e * same l b
-      load-at a b h p q (inl c) (inl d) =
+      load-at a b h p q r (inl c) (inl d) =
           let i : loadPlace g a b ≡ loadPlace g e l = λ k. loadPlace g (c .0 k) (sym (d .0) k) in
           let v : x a b ≡ x e l = λ k. x (c .0 k) (sym (d .0) k) in
           omega (
             arith,
             ap (λ (n : ℕ). getD (occupied g w e l) n 0) i,
             load-here g w e l edge low high room,
-            s .loads e l edge low high,
+            s .loads e l edge low high along,
             v,
             mark-one a e (same l b) (c .1),
             d .1,
           )
-      load-at a b h p q (inl c) (inr d) = other a b h p q (inr (λ r. d .0 (omega arith))) (omega (arith, mark-one a e (same l b) (c .1), d .1))
-      load-at a b h p q (inr c) d = other a b h p q (inl (c .0)) (mark-none a e (same l b) (c .1))
+      load-at a b h p q r (inl c) (inr d) =
+          omega (arith, other a b h p q (inr (λ t. d .0 (omega arith))), s .loads a b h p q r, mark-one a e (same l b) (c .1), d .1)
+      load-at a b h p q r (inr c) d = omega (arith, other a b h p q (inl (c .0)), s .loads a b h p q r, mark-none a e (same l b) (c .1))
 
       left-at : (a : ℕ) → a < g .e → ((a ≡ e) × (same a e ≡ 1)) ⊎ ((a ≢ e) × (same a e ≡ 0))
           → getD (occupied g w e l) (demandAt g + a) 0 + sumOver (layersOf j a) (capacity j a) (oneMore e l x a) ≡ o a
@@ -167,7 +170,7 @@ module _ (g : Shape) (j : Job) (o : ℕ → ℕ) (x : ℕ → ℕ → ℕ) (w : 
           (omega (
             arith,
             left-here g w e l edge low high room,
-            ap₂ (λ (n k : ℕ). getD w (demandAt g + e) 0 - fullOf n k) (s .loads e l edge low high) (s .capacities .caps e l edge low high),
+            ap₂ (λ (n k : ℕ). getD w (demandAt g + e) 0 - fullOf n k) (s .loads e l edge low high along) (s .capacities .caps e l edge low high),
             left-next (x e l) (capacity j e l) (getD w (demandAt g + e) 0) (sumOver (layersOf j e) (capacity j e) (x e)) (sumOver (layersOf j e) (capacity j e) (put l (x e))) (o e)
                 (s .left e edge) more (good .whole),
             sum-eq (λ b. over (capacity j e b) (oneMore e l x e b)) (λ b. over (capacity j e b) (put l (x e) b)) (layersOf j e)

@@ -1,5 +1,6 @@
 -- One more net, on all its layers.
 -- Assumes nothing.
+use mathlib.Core.Bool.{true}
 use mathlib.Core.List.{List, [], _∷_}
 use mathlib.Core.Logic.{inl, _≢_}
 use mathlib.Core.Path.{_≡_, sym, subst, fun-ext}
@@ -9,16 +10,17 @@ use lib.ListN.{length, getD}
 use Rattle.layout.specs.Areas.{loadsAt, demandAt, flatAt, aboveAt, engineAt}
 use Rattle.layout.specs.Parts.{part, Outside, outside-then, outside-same}
 use Rattle.layout.specs.declared.Shape.{Shape}
-use Rattle.model.specs.Job.{Job, layersOf, capacity}
+use Rattle.model.specs.Job.{Job, runs, group, layersOf, capacity}
 use Rattle.model.specs.Limits.{mostNets}
 use Rattle.model.specs.Lists.{same, occurs, In}
 use Rattle.net.specs.SoFar.{SoFarWith}
-use Rattle.theory.specs.congestion.Base.{in-upFrom}
 use Rattle.theory.specs.congestion.Edge.{Legal}
 use Rattle.theory.specs.congestion.Loads.{mark-none}
 use Rattle.theory.specs.congestion.Problem.{Bounds, LegalWithin, place}
 use Rattle.theory.specs.congestion.Sums.{same-refl, same-ne, in-head, in-tail, in-other}
 use Rattle.theory.specs.links.Flat.{problem}
+use Rattle.theory.specs.links.Layers.{in-layers}
+use Rattle.theory.specs.links.Tests.{is-true}
 use Rattle.tracks.specs.Occupied.{loadPlace, capPlace, occupied, Free, oneMore, so-far-same, others-kept, occupied-long, legal-free, occupied-with}
 use Rattle.net.specs.Places.{edge-room, apart}
 
@@ -107,8 +109,8 @@ all-outside g w (e ∷ es) (b ∷ bs) room t =
 -- ---- a legal choice can be placed, and then the working numbers hold the net
 
 module _ (g : Shape) (j : Job) (m : Bounds) (layers : g .k ≡ j .layers) where
-  layer-in : (e b : ℕ) → In b (layersOf j e) → (1 ≤ b) × (b ≤ g .k)
-  layer-in e b i = let r = in-upFrom b 1 (j .layers) .0 i in (r .0, omega (arith, r .1))
+  layer-in : (e b : ℕ) → In b (layersOf j e) → (1 ≤ b) × (b ≤ g .k) × (runs (j .dirs) (group j e) b ≡ true)
+  layer-in e b i = let r = in-layers j (group j e) b i in (r .0, omega (arith, r .1), is-true (runs (j .dirs) (group j e) b) (r .2))
 
   pub choice-takes : (x : ℕ → ℕ → ℕ) (w : List ℕ) → SoFarWith g j (m .whole) x w → ((e l : ℕ) → x e l ≤ mostNets) → (es bs : List ℕ) → LegalWithin (problem j) m x es bs
       → ((e : ℕ) → occurs e es ≤ 1) → ((e : ℕ) → In e es → e < g .e) → CanTake g w es bs
@@ -122,7 +124,7 @@ module _ (g : Shape) (j : Job) (m : Bounds) (layers : g .k ≡ j .layers) where
           edge = h;
           low = k .0;
           high = k .1;
-          free = legal-free g j (m .whole) x w s layers e b (m .limit e) h (k .0) (k .1) (c .1) (few e b);
+          free = legal-free g j (m .whole) x w s layers e b (m .limit e) h (k .0) (k .1) (k .2) (c .1) (few e b);
           once = omega (arith, once e, same-refl e);
         },
         choice-takes x w s few es bs (c .2) (λ a. omega (arith, once a)) (λ a i. known a (in-tail a e es i)),
@@ -151,6 +153,6 @@ module _ (g : Shape) (j : Job) (m : Bounds) (layers : g .k ≡ j .layers) where
       let k = layer-in e b (c .0) in
       let h = known e (in-head e es) in
       so-far-same g j (m .whole) (place (oneMore e b x) es bs) (place x (e ∷ es) (b ∷ bs)) (occupiedAll g (occupied g w e b) es bs) (λ a l. omega arith)
-      (choice-occupied (oneMore e b x) (occupied g w e b) (occupied-with g j (m .whole) x w s layers e b (m .limit e) h (k .0) (k .1) (c .1) (omega arith))
+      (choice-occupied (oneMore e b x) (occupied g w e b) (occupied-with g j (m .whole) x w s layers e b (m .limit e) h (k .0) (k .1) (k .2) (c .1) (omega arith))
       (omega (arith, occupied-long g w e b h (k .0) (k .1) (omega arith))) es bs
       (others-legal x e b es bs (omega (arith, once e, same-refl e)) (c .2)) (λ a. omega (arith, once a)) (λ a i. known a (in-tail a e es i)))

@@ -1,15 +1,19 @@
 // Nets and capacities on the layers of each edge, in the working numbers: the legal layers of an edge, and one more net on a layer.
+use layout::Dirs;
 use layout::Shape;
 ghost use mathlib.Core.Path.{_≡_};
 ghost use mathlib.Core.Bool.{cond};
 ghost use Prim.Native.Nat.{ℕ, _+_, _-_, _*_, _^_, _<_, _≤_};
 ghost use lib.ListN.{length, getD};
-ghost use Rattle.layout.specs.Areas.{flatAt, areasEnd};
+ghost use Rattle.layout.specs.Areas.{demandAt, flatAt, areasEnd};
+ghost use Rattle.layout.specs.Fill.{Filled};
 ghost use Rattle.layout.specs.Shapes.{Shaped};
 ghost use Rattle.model.specs.Limits.{mostLayers, mostNets};
 ghost use Rattle.net.specs.Places.{SmallCapacities};
+ghost use Rattle.net.specs.SoFar.{closedLoad};
 ghost use Rattle.tracks.specs.Legal.{roomOf, openTo, openIn, legalMask};
 ghost use Rattle.tracks.specs.Masks.{bitsUp};
+ghost use Rattle.tracks.specs.Shut.{rowAt, shutAt, Shut, Closed};
 ghost use Rattle.tracks.specs.Occupied.{fullOf, occupied, Free};
 ghost use Rattle.tracks.specs.OccupiedAll.{edgesOf, layersIn, occupiedAll, CanTake};
 
@@ -66,6 +70,60 @@ pub fn legal(w: &[u32], g: Shape, edge: usize, limit: u32) -> u32
         return low + 16 * high;
     }
     open_layers(w, caps, loads, g.k, room)
+}
+
+// So many nets close a layer: no capacity and no limit comes near it.
+const CLOSED: u32 = 2147483648;
+
+// The nets on a layer: as they are where it runs the way of its edge, and else so many that it is closed.
+fn shut(along: bool, load: u32) -> u32
+    ensures { λ r. ⌜ r ≡ cond along load closedLoad ⌝ }
+{
+    if along {
+        return load;
+    }
+    CLOSED
+}
+
+// Closes the layers of an edge that run the other way, the edge going east (0) or north (1).
+fn close_edge(w: &mut [u32], g: Shape, edge: usize, way: u32)
+    requires { ⌜ Shaped g ⌝ }
+    requires { ⌜ (edge < g .e) × (demandAt g ≤ length (now w)) ⌝ }
+    ensures { λ _. ⌜ Filled (rowAt g edge) (g .k) (shutAt g way (now (w .entry)) edge) (now (w .entry)) (now (w .exit)) ⌝ }
+{
+    let dirs = g.dirs;
+    let at = layout::loads_at(g) + layout::edge_at(g, edge);
+    for l in 0..g.k {
+        let nets = w[at + l];
+        w[at + l] = shut(layout::runs(dirs, way, l), nets);
+    }
+}
+
+// The same for the edges from `from` on, up to `to`.
+fn close_edges(w: &mut [u32], g: Shape, from: usize, to: usize, way: u32)
+    requires { ⌜ Shaped g ⌝ }
+    requires { ⌜ (from ≤ to) × (to ≤ g .e) × (demandAt g ≤ length (now w)) ⌝ }
+    ensures { λ _. ⌜ Shut g from to way (now (w .entry)) (now (w .exit)) ⌝ }
+{
+    for e in from..to {
+        close_edge(w, g, e, way);
+    }
+}
+
+// Closes the layers of each edge that run the other way, where the job says which way its layers run.
+pub fn close_layers(w: &mut [u32], g: Shape)
+    requires { ⌜ Shaped g ⌝ }
+    requires { ⌜ demandAt g ≤ length (now w) ⌝ }
+    ensures { λ _. ⌜ Closed g (now (w .entry)) (now (w .exit)) ⌝ }
+{
+    let dirs = g.dirs;
+    match dirs {
+        Dirs::Any => {}
+        Dirs::Given(_) => {
+            close_edges(w, g, 0, g.east, 0);
+            close_edges(w, g, g.east, g.e, 1);
+        }
+    }
 }
 
 // 1 where a layer is full.

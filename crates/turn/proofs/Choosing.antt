@@ -1,8 +1,9 @@
 -- A net's turn, second step: its legal layers, and its choice of layers.
 -- Assumes nothing.
 use mathlib.Core.List.{List}
-use mathlib.Core.Logic.{inl}
-use mathlib.Core.Path.{_≡_, sym, ap, _∙_, subst}
+use mathlib.Core.Bool.{true}
+use mathlib.Core.Logic.{inl, _↔_}
+use mathlib.Core.Path.{_≡_, refl, sym, ap, _∙_, subst}
 use Prim.Native.Nat.{ℕ, zero, suc, _+_, _-_, _*_, _≤_, _<_}
 use native.Mathlib.Omega.{arith}
 use lib.Dec.{T}
@@ -17,8 +18,9 @@ use Rattle.layout.specs.Shapes.{Shaped}
 use Rattle.layout.specs.declared.Shape.{Shape}
 use Rattle.marks.specs.Marks.{Older}
 use Rattle.marks.specs.Words.{bitOf, bit-is}
+use Rattle.model.specs.Job.{group}
 use Rattle.model.specs.Limits.{mostNets}
-use Rattle.model.specs.Lists.{has}
+use Rattle.model.specs.Lists.{In, has}
 use Rattle.model.specs.Plan.{placed, legal}
 use Rattle.model.specs.Vias.{vias}
 use Rattle.theory.specs.links.Best.{LegalFor, inWalk, cheapest, to-walk, vias-cost, best-walk, best-is, legal-rising, legal-iff, legal-choice}
@@ -63,7 +65,7 @@ module _ (g : Shape) (shaped : Shaped g) (n : ℕ) (w : List ℕ) (room : areasE
   tiles-fit = (omega (arith, h .tiles), omega (arith, h .tiles, fit))
 
   pub limit-fits : (m : ℕ → ℕ) → ((e : ℕ) → m e ≡ turnLimit u e) → (e : ℕ) → m e ≤ mostNets
-  limit-fits m h e = omega (arith, h e, limit-small (u .lent) (u .job) (u .accepted), u .accepted .net-count)
+  limit-fits m h e = omega (arith, h e, limit-small (u .lent) (u .job) (u .accepted) (group (u .job) e), u .accepted .net-count)
 
   pub small : SmallCapacities g w
   small = small-capacities g (u .job) w (h .so-far .capacities) (capacity-small (u .lent) (u .job) (u .accepted))
@@ -116,6 +118,14 @@ module _ (g : Shape) (shaped : Shaped g) (n : ℕ) (w : List ℕ) (room : areasE
     bit-at : (i : ℕ) → i < length (turnNet u .edges) → (l : ℕ) → mask.has (getD (engineOf g w′) (2 * g .m + suc i) 0) l ≡ bitOf (legalAt g w (turnLimit u) (getD (turnWalk u) i 0)) (l - 1)
     bit-at i b l = has-bit (getD (engineOf g w′) (2 * g .m + suc i) 0) l ∙ ap (λ (x : ℕ). bitOf x (l - 1)) (mask-at i b)
 
+    -- a layer of the edge above place i + 1 is legal just where its bit is set
+    legal-there : (i : ℕ) → i < length (turnNet u .edges) → (l : ℕ) → 1 ≤ l → l ≤ u .job .layers
+        → (bitOf (legalAt g w (turnLimit u) (getD (turnWalk u) i 0)) (l - 1) ≡ true) ↔ In l (legal (u .job) (u .plan) (getD (turnWalk u) i 0))
+    legal-there i b l p q =
+        let e = getD (turnWalk u) i 0 in
+        legal-in g (u .job) (u .plan) w (h .so-far) (h .grid .layers) e l (edge-in i b) p (omega (arith, h .grid .layers)) (capacity-small (u .lent) (u .job) (u .accepted) e l)
+        (limit-fits (turnLimit u) (λ a. refl) e)
+
     -- the net has a legal choice
     some : (z : List ℕ) × LegalFor (u .job) (placed (u .job) (u .plan)) (turnNet u) z
     some = turn-legal (u .lent) (u .job) (u .accepted) (u .entry) (u .rest) (u .plan) (u .midway)
@@ -135,12 +145,11 @@ module _ (g : Shape) (shaped : Shaped g) (n : ℕ) (w : List ℕ) (room : areasE
       ends = λ i b. ends-at i b ∙ h .ends i b;
       pins = λ i b. subst (λ (x : ℕ). IsSet x (pinsAt (u .job) (turnNet u) i)) (sym (pins-at i b)) (pins-set i b);
       into = λ i b l p q t.
-          legal-in g (u .job) (u .plan) w (h .so-far) (h .grid .layers) (getD (turnWalk u) i 0) l (edge-in i b) p (omega (arith, h .grid .layers)) .0
-          (sym (bit-at i b l) ∙ is-true (mask.has (getD (engineOf g w′) (2 * g .m + suc i) 0) l) t);
+          legal-there i b l p q .0 (sym (bit-at i b l) ∙ is-true (mask.has (getD (engineOf g w′) (2 * g .m + suc i) 0) l) t);
       back = λ i b l k.
           let r = legal-iff (u .job) (u .plan) (getD (turnWalk u) i 0) l .0 k in
           subst T
-          (sym (bit-at i b l ∙ legal-in g (u .job) (u .plan) w (h .so-far) (h .grid .layers) (getD (turnWalk u) i 0) l (edge-in i b) (r .0) (omega (arith, r .1, h .grid .layers)) .1 k)) tt;
+          (sym (bit-at i b l ∙ legal-there i b l (r .0) (r .1) .1 k)) tt;
       rising = legal-rising (u .job) (u .plan);
       inside = λ e l k. let r = legal-iff (u .job) (u .plan) e l .0 k in (r .0, r .1);
       choice = inWalk (u .job) (turnNet u) (some .0);

@@ -32,7 +32,8 @@ module _ (g : Shape) (w w′ : List ℕ) (same : SameLow g w w′) where
   pub so-far-low : (j : Job) (o : ℕ → ℕ) (x : ℕ → ℕ → ℕ) → SoFarWith g j o x w → SoFarWith g j o x w′
   so-far-low j o x s = record {
     capacities = record { caps = λ e l h a b. same (e * g .k + (l - 1)) (omega (arith, edge-room g e h)) ∙ s .capacities .caps e l h a b };
-    loads = λ e l h a b. same (loadsAt g + e * g .k + (l - 1)) (omega (arith, edge-room g e h)) ∙ s .loads e l h a b;
+    loads = λ e l h a b r. same (loadsAt g + e * g .k + (l - 1)) (omega (arith, edge-room g e h)) ∙ s .loads e l h a b r;
+    closed = λ e l h a b r. omega (arith, same (loadsAt g + e * g .k + (l - 1)) (omega (arith, edge-room g e h)), s .closed e l h a b r);
     left = λ e h. omega (arith, same (demandAt g + e) (omega arith), s .left e h);
   }
 

@@ -11,7 +11,6 @@ use Rattle.marks.specs.Marks.{Older}
 use Rattle.marks.specs.Words.{bitOf}
 use Rattle.model.specs.Job.{Net, Job, netOf}
 use Rattle.model.specs.Lists.{has}
-use Rattle.model.specs.Overflow.{limit}
 use Rattle.model.specs.Plan.{best, bestInWalk}
 use Rattle.model.specs.Read.{Lent}
 use Rattle.model.specs.Score.{Entry}
@@ -20,6 +19,7 @@ use Rattle.model.specs.Walk.{walk}
 use Rattle.net.specs.SoFar.{SoFar}
 use Rattle.net.specs.Table.{PinsAt, EdgesAt}
 use Rattle.theory.specs.links.Engine.{firstAt, pinsAt}
+use Rattle.theory.specs.links.Flat.{limitAt}
 use Rattle.theory.specs.links.Planned.{Midway, midway-next}
 use Rattle.theory.specs.links.Reading.{Accepted}
 use Rattle.tracks.specs.OccupiedAll.{edgesOf, layersIn}
@@ -51,9 +51,9 @@ turnWalk u = walk (u .job) (turnNet u)
 abbrev pub walkLayers : Turn → List ℕ
 walkLayers u = bestInWalk (u .job) (u .plan) (turnNet u) (turnWalk u)
 
--- "MO/K rounded up", for every edge
+-- the limit on one layer's overflow, by edge
 abbrev pub turnLimit : Turn → ℕ → ℕ
-turnLimit u e = limit (u .job)
+turnLimit u e = limitAt (u .job) e
 
 -- the grid and the stack are those of the job
 pub record OfJob (g : Shape) (j : Job) : Type 0 where
@@ -61,7 +61,7 @@ pub record OfJob (g : Shape) (j : Job) : Type 0 where
   pub height : g .h ≡ j .height
   pub layers : g .k ≡ j .layers
 
-pub of-job : (g : Shape) (j : Job) → g ≡ shapeOf (j .width) (j .height) (j .layers) → OfJob g j
+pub of-job : (g : Shape) (j : Job) → g ≡ shapeOf (j .width) (j .height) (j .layers) (g .dirs) → OfJob g j
 of-job g j e = record { width = ap (λ (a : Shape). a .w) e; height = ap (λ (a : Shape). a .h) e; layers = ap (λ (a : Shape). a .k) e }
 
 -- where the plan stands after the turn: the nets left are the rest

@@ -2,9 +2,10 @@
 //! from the job and the library's answer list, and held to the figures that the library returned.
 
 use crate::fault::Fault;
-use crate::job::{self, Grid, Job, Net};
+use crate::job::{self, Grid, Job, Net, Way};
 use crate::planner::{Planned, Planner};
 use layerplan::{Entry, Refusal, Totals};
+use serde::Serialize;
 use std::cmp::Reverse;
 
 /// A planned block with its counts.
@@ -48,6 +49,13 @@ impl Overflow {
     }
 }
 
+/// The most that one layer of an edge may overflow, by the way of the edge.
+#[derive(Serialize, Clone, Copy, PartialEq, Eq, Debug)]
+pub struct Limits {
+    pub east: usize,
+    pub north: usize,
+}
+
 /// Plans a text and counts its figures: the block, or the library's refusal.
 pub fn plan(planner: &mut Planner, text: &[u8]) -> Result<Result<Block, Refusal>, Fault> {
     match planner.plan(text) {
@@ -83,8 +91,12 @@ fn count(job: Job, planned: Planned) -> Option<Block> {
     let mut masks = Masks::new(block.job.grid);
     for (net, layers) in block.job.nets.iter().zip(&block.layers) {
         for (edge, layer) in net.edges.iter().zip(layers) {
+            let layer = usize::from(*layer);
             block.demand[*edge] += 1;
-            *block.used.get_mut(usize::from(*layer).checked_sub(1)?)?.get_mut(*edge)? += 1;
+            *block.used.get_mut(layer.checked_sub(1)?)?.get_mut(*edge)? += 1;
+            if !block.job.carries(layer, block.job.grid.named(*edge).1) {
+                return None;
+            }
         }
         block.net_vias.push(masks.count(net, layers, &mut block.tile_vias));
     }
@@ -162,15 +174,31 @@ impl Block {
         (1..=self.job.layers).flat_map(move |layer| (0..edges).map(move |edge| Place { layer, edge }))
     }
 
+    /// The nets on an edge of the flat plan, and its tracks on all layers.
+    fn flat(&self, edge: usize) -> (usize, usize) {
+        (self.demand[edge], self.job.capacity.iter().map(|layer| layer[edge]).sum())
+    }
+
     /// TO and MO of the flat plan.
     pub fn flat_overflow(&self) -> Overflow {
-        let capacity = |edge: usize| self.job.capacity.iter().map(|layer| layer[edge]).sum();
-        Overflow::of(self.demand.iter().enumerate().map(|(edge, demand)| (*demand, capacity(edge))))
+        Overflow::of((0..self.job.grid.edges()).map(|edge| self.flat(edge)))
     }
 
     /// The same over all layers, as counted here.
     pub fn layered_overflow(&self) -> Overflow {
         Overflow::of(self.places().map(|at| (self.used(at), self.capacity(at))))
+    }
+
+    /// The limits that the job's directions set; none where it has no `dirs` line.
+    pub fn limits(&self) -> Option<Limits> {
+        self.job.dirs.as_ref().map(|_| Limits { east: self.limit(Way::East), north: self.limit(Way::North) })
+    }
+
+    /// The largest flat overflow among edges of this way divided by the number of their layers, rounded up. Where they
+    /// have no layer, no net uses them and none overflows.
+    fn limit(&self, way: Way) -> usize {
+        let of_way = (0..self.job.grid.edges()).filter(|edge| self.job.grid.named(*edge).1 == way);
+        Overflow::of(of_way.map(|edge| self.flat(edge))).maximum.div_ceil(self.job.layers_for(way).max(1))
     }
 
     /// The place of each net in the placing order, from 1.
@@ -204,11 +232,56 @@ impl Block {
     }
 }
 
+/// The example with directions, planned by hand.
+#[cfg(test)]
+pub fn directed_example() -> Block {
+    let order = [(2, 3000), (3, 3000), (4, 3000), (1, 2333)].map(|(net, score)| Entry { net, score });
+    let totals = Totals { vias: 4, overflow: 2, maximum: 1 };
+    let planned = Planned { totals, order: &order, answer: &[3, 3, 2, 1, 1, 1] };
+    of(planned, include_bytes!("../../../examples/directed.job")).unwrap()
+}
+
 #[cfg(test)]
 mod tests {
     use super::*;
 
     const EXAMPLE: &[u8] = include_bytes!("../../../examples/three-tiles.job");
+
+    #[test]
+    fn limits_by_direction() {
+        let block = directed_example();
+        assert_eq!(block.flat_overflow(), Overflow { total: 2, maximum: 2 });
+        assert_eq!(block.limits(), Some(Limits { east: 1, north: 0 }));
+        assert_eq!(block.used, [[1, 2, 0, 0, 0, 0, 0], [0, 0, 0, 0, 0, 0, 1], [1, 1, 0, 0, 0, 0, 0]]);
+        assert_eq!(plan(&mut Planner::new(), EXAMPLE).unwrap().unwrap().limits(), None);
+    }
+
+    #[test]
+    fn limits_where_a_direction_has_no_edge_or_no_layer() {
+        let layer_of_one_row = "east=0\nnorth=\n";
+        let layer_of_two_rows = "east=0,0\nnorth=0,0\n";
+        for (height, dirs, layer) in [(1, "h,v", layer_of_one_row), (2, "h,h", layer_of_two_rows)] {
+            let text = format!(
+                "width=2\nheight={height}\nlayers=2\ndirs={dirs}\nalpha=1\nbeta=1\ngamma=0\n{layer}{layer}\
+                 nets=1\nnet=1\npins=0,0,1\nedges=0,0,e\n"
+            );
+            let totals = Totals { vias: 0, overflow: 1, maximum: 1 };
+            let order = [Entry { net: 1, score: 2000 }];
+            let block = of(Planned { totals, order: &order, answer: &[1] }, text.as_bytes()).unwrap();
+            assert_eq!(block.limits(), Some(Limits { east: 1, north: 0 }), "{dirs}");
+        }
+    }
+
+    #[test]
+    fn an_edge_on_a_layer_that_runs_the_other_way_does_not_fit() {
+        let block = directed_example();
+        let answer = |layers: &[u8]| {
+            let planned = Planned { totals: block.totals, order: &block.order, answer: layers };
+            count(block.job.clone(), planned).is_some()
+        };
+        assert!(answer(&[3, 3, 2, 1, 1, 1]) && answer(&[1, 1, 2, 1, 1, 1]));
+        assert!(!answer(&[2, 3, 2, 1, 1, 1]) && !answer(&[3, 3, 1, 1, 1, 1]) && !answer(&[3, 3, 4, 1, 1, 1]));
+    }
 
     #[test]
     fn the_example_is_counted() {

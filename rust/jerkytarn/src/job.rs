@@ -22,6 +22,22 @@ impl Way {
             Way::North => 'n',
         }
     }
+
+    /// The letter on a `dirs` line of a layer that carries such edges.
+    pub fn dir(self) -> char {
+        match self {
+            Way::East => 'h',
+            Way::North => 'v',
+        }
+    }
+
+    /// The same in a word.
+    pub fn name(self) -> &'static str {
+        match self {
+            Way::East => "east",
+            Way::North => "north",
+        }
+    }
 }
 
 /// A tile by its column and row.
@@ -128,6 +144,8 @@ impl Net {
 pub struct Job {
     pub grid: Grid,
     pub layers: usize,
+    /// The way of the edges that each layer carries, from the bottom; none where the job has no `dirs` line.
+    pub dirs: Option<Vec<Way>>,
     pub alpha: usize,
     pub beta: usize,
     pub gamma: usize,
@@ -144,6 +162,8 @@ pub enum Kind {
     Width,
     Height,
     Layers,
+    /// A line that may be left out.
+    Dirs,
     Alpha,
     Beta,
     Gamma,
@@ -164,6 +184,8 @@ pub enum Form {
     Number(RangeInclusive<usize>),
     /// The number of the net in turn, which has no range of its own.
     Turn(usize),
+    /// As many letters `h` or `v`, comma between.
+    Dirs(usize),
     /// As many numbers, each from this range, comma between.
     Numbers(usize, RangeInclusive<usize>),
     Pins,
@@ -172,9 +194,12 @@ pub enum Form {
     Nothing,
 }
 
-/// The keys of a job text, in their order.
-pub const KEYS: [&str; 12] =
-    ["width", "height", "layers", "alpha", "beta", "gamma", "east", "north", "nets", "net", "pins", "edges"];
+/// The keys of a job text, in their order; `dirs` may be left out.
+pub const KEYS: [&str; 13] =
+    ["width", "height", "layers", "dirs", "alpha", "beta", "gamma", "east", "north", "nets", "net", "pins", "edges"];
+
+/// The number of the `dirs` line, where there is one.
+pub const DIRS_LINE: usize = 4;
 
 impl Kind {
     /// The key before the `=`; none after the last line.
@@ -183,6 +208,7 @@ impl Kind {
             Kind::Width => "width",
             Kind::Height => "height",
             Kind::Layers => "layers",
+            Kind::Dirs => "dirs",
             Kind::Alpha => "alpha",
             Kind::Beta => "beta",
             Kind::Gamma => "gamma",
@@ -201,6 +227,7 @@ impl Kind {
         match self {
             Kind::Width | Kind::Height => Form::Number(1..=64),
             Kind::Layers => Form::Number(2..=8),
+            Kind::Dirs => Form::Dirs(job.layers),
             Kind::Alpha | Kind::Beta | Kind::Gamma => Form::Number(0..=255),
             Kind::East(_) => Form::Numbers(job.grid.east_edges(), 0..=255),
             Kind::North(_) => Form::Numbers(job.grid.north_edges(), 0..=255),
@@ -212,12 +239,13 @@ impl Kind {
         }
     }
 
-    /// What stands on the next line, once this one is read.
-    fn next(self, job: &Job) -> Kind {
+    /// What stands on the next line, once this one is read; `rest` is the text from there on.
+    fn next(self, job: &Job, rest: &[u8]) -> Kind {
         match self {
             Kind::Width => Kind::Height,
             Kind::Height => Kind::Layers,
-            Kind::Layers => Kind::Alpha,
+            Kind::Layers if rest.starts_with(b"dirs=") => Kind::Dirs,
+            Kind::Layers | Kind::Dirs => Kind::Alpha,
             Kind::Alpha => Kind::Beta,
             Kind::Beta => Kind::Gamma,
             Kind::Gamma => Kind::East(1),
@@ -266,6 +294,25 @@ pub fn edge(entry: &[u8]) -> Option<(Tile, Way)> {
     Some((Tile { x: number(x)?, y: number(y)? }, way))
 }
 
+/// An entry of `dirs`.
+pub fn dir(entry: &[u8]) -> Option<Way> {
+    match entry {
+        b"h" => Some(Way::East),
+        b"v" => Some(Way::North),
+        _ => None,
+    }
+}
+
+/// Letters as they stand on a `dirs` line.
+pub fn listed(letters: &[char]) -> String {
+    letters.iter().map(char::to_string).collect::<Vec<_>>().join(",")
+}
+
+/// The letters of the layers, to stand behind their number; nothing where there are none.
+pub fn in_brackets(letters: Option<&[char]>) -> String {
+    letters.map_or(String::new(), |letters| format!(" ({})", listed(letters)))
+}
+
 /// The entries of a list; an empty value is a list without entries.
 pub fn entries(value: &[u8], separator: u8) -> Vec<&[u8]> {
     match value {
@@ -287,6 +334,7 @@ impl Job {
             Kind::Width => self.grid.width = number(value)?,
             Kind::Height => self.grid.height = number(value)?,
             Kind::Layers => self.layers = number(value)?,
+            Kind::Dirs => self.dirs = Some(all(entries(value, b','), dir).filter(|dirs| dirs.len() == self.layers)?),
             Kind::Alpha => self.alpha = number(value)?,
             Kind::Beta => self.beta = number(value)?,
             Kind::Gamma => self.gamma = number(value)?,
@@ -315,6 +363,26 @@ impl Job {
 
     fn edges(&self, value: &[u8]) -> Option<Vec<usize>> {
         all(entries(value, b';'), |entry| edge(entry).and_then(|(tile, way)| self.grid.edge(tile, way)))
+    }
+
+    /// The way of the edges that a layer carries; none where the job has no `dirs` line.
+    pub fn runs(&self, layer: usize) -> Option<Way> {
+        self.dirs.as_ref().map(|dirs| dirs[layer - 1])
+    }
+
+    /// Whether edges of this way may use a layer.
+    pub fn carries(&self, layer: usize, way: Way) -> bool {
+        self.runs(layer).is_none_or(|runs| runs == way)
+    }
+
+    /// How many layers edges of this way may use.
+    pub fn layers_for(&self, way: Way) -> usize {
+        (1..=self.layers).filter(|layer| self.carries(*layer, way)).count()
+    }
+
+    /// The letters of the `dirs` line, from the bottom layer.
+    pub fn letters(&self) -> Option<Vec<char>> {
+        self.dirs.as_ref().map(|dirs| dirs.iter().map(|way| way.dir()).collect())
     }
 
     /// The entries on all `edges` lines.
@@ -346,12 +414,11 @@ pub fn read(text: &[u8]) -> Option<Job> {
 pub fn read_before(text: &[u8], line: usize) -> Option<(Job, Kind)> {
     let mut job = Job::default();
     let mut kind = Kind::Width;
-    for (before, content) in lines(text).enumerate() {
-        if before + 1 == line {
-            break;
-        }
+    let mut rest = text;
+    for content in lines(text).take(line.saturating_sub(1)) {
         job.take(kind, content)?;
-        kind = kind.next(&job);
+        rest = &rest[content.len() + 1..];
+        kind = kind.next(&job, rest);
     }
     Some((job, kind))
 }
@@ -381,6 +448,39 @@ mod tests {
         for (place, line) in lines(EXAMPLE).enumerate() {
             assert!(line.starts_with(format!("{}=", kinds[place].key()).as_bytes()));
             assert!(KEYS.contains(&kinds[place].key()));
+        }
+    }
+
+    const DIRECTED: &[u8] = include_bytes!("../../../examples/directed.job");
+
+    #[test]
+    fn directions_are_read_and_move_the_lines_behind_them() {
+        let job = read(DIRECTED).unwrap();
+        assert_eq!(job.dirs, Some(vec![Way::East, Way::North, Way::East]));
+        assert_eq!(job.letters().unwrap(), ['h', 'v', 'h']);
+        assert_eq!([Way::East, Way::North].map(|way| job.layers_for(way)), [2, 1]);
+        assert!(job.carries(3, Way::East) && !job.carries(3, Way::North) && !job.carries(2, Way::East));
+        let kinds: Vec<Kind> = (1..=DIRS_LINE + 5).map(|line| read_before(DIRECTED, line).unwrap().1).collect();
+        assert_eq!(kinds[2..5], [Kind::Layers, Kind::Dirs, Kind::Alpha]);
+        assert_eq!(kinds[7..], [Kind::East(1), Kind::North(1)]);
+        assert!(kinds.iter().all(|kind| KEYS.contains(&kind.key())));
+        let plain = read(EXAMPLE).unwrap();
+        assert!(plain.letters().is_none() && plain.carries(2, Way::North) && plain.layers_for(Way::East) == 2);
+    }
+
+    #[test]
+    fn the_line_of_directions_is_there_where_its_key_is() {
+        let head = "width=1\nheight=1\nlayers=2\n";
+        let kind = |rest: &str, line| read_before(format!("{head}{rest}").as_bytes(), line).map(|(_, kind)| kind);
+        for rest in ["dirs=", "dirs=h,v", "dirs=h,v\n", "dirs=x\n"] {
+            assert_eq!(kind(rest, 4), Some(Kind::Dirs), "{rest}");
+        }
+        for rest in ["", "dirs", "dirs\n", "Dirs=h,v\n", " dirs=h,v\n", "alpha=1\n"] {
+            assert_eq!(kind(rest, 4), Some(Kind::Alpha), "{rest}");
+        }
+        assert_eq!(kind("dirs=h,v\ndirs=h,v\n", 5), Some(Kind::Alpha));
+        for rest in ["dirs=\n", "dirs=h\n", "dirs=h,v,h\n", "dirs=hv\n", "dirs=h,V\n", "dirs=h,v,\n", "dirs=h, v\n"] {
+            assert_eq!(kind(rest, 5), None, "{rest}");
         }
     }
 

@@ -5,8 +5,8 @@ mod table;
 pub use table::{grouped, put_block, table, Style};
 
 use crate::explain::need;
-use crate::figures::{Block, Overflow, Place};
-use crate::job::Tile;
+use crate::figures::{Block, Limits, Overflow, Place};
+use crate::job::{Tile, Way};
 use layerplan::Refusal;
 use serde::Serialize;
 use std::cmp::Reverse;
@@ -20,6 +20,9 @@ pub struct Report {
     pub tiles: usize,
     pub edges: usize,
     pub layers: usize,
+    /// The letters of the `dirs` line, from the bottom layer; here and below, nothing stands where the job has none.
+    #[serde(skip_serializing_if = "Option::is_none")]
+    pub dirs: Option<Vec<char>>,
     pub nets: usize,
     pub pins: usize,
     /// The different tiles of each net's pins, of all nets together.
@@ -27,6 +30,9 @@ pub struct Report {
     /// Entries on all `edges` lines.
     pub entries: usize,
     pub flat_overflow: Totals,
+    /// The most that one layer of an edge may overflow, by the edge's direction.
+    #[serde(skip_serializing_if = "Option::is_none")]
+    pub limits: Option<Limits>,
     pub layered_overflow: Totals,
     pub vias: u64,
     /// What the library must be lent for the job.
@@ -56,6 +62,9 @@ pub struct Lengths {
 #[derive(Serialize, Clone, PartialEq, Debug)]
 pub struct Layer {
     pub layer: usize,
+    /// Its letter on the `dirs` line.
+    #[serde(skip_serializing_if = "Option::is_none")]
+    pub runs: Option<char>,
     pub tracks: usize,
     /// Nets on all its edges, those without a track included.
     pub used: usize,
@@ -118,11 +127,13 @@ impl Report {
             tiles: job.grid.tiles(),
             edges: job.grid.edges(),
             layers: job.layers,
+            dirs: job.letters(),
             nets: job.nets.len(),
             pins: job.nets.iter().map(|net| net.pins.len()).sum(),
             pin_tiles: job.nets.iter().map(|net| net.pin_tiles()).sum(),
             entries: job.entries(),
             flat_overflow: totals(block.flat_overflow()),
+            limits: block.limits(),
             layered_overflow: totals(block.layered_overflow()),
             vias: block.totals.vias,
             lengths: lengths(block),
@@ -165,7 +176,8 @@ fn lengths(block: &Block) -> Lengths {
 }
 
 fn layer_row(block: &Block, layer: usize) -> Layer {
-    let mut row = Layer { layer, tracks: 0, used: 0, share: 0.0, full: 0, overflowed: 0, overflow: 0 };
+    let runs = block.job.runs(layer).map(Way::dir);
+    let mut row = Layer { layer, runs, tracks: 0, used: 0, share: 0.0, full: 0, overflowed: 0, overflow: 0 };
     for edge in 0..block.job.grid.edges() {
         let at = Place { layer, edge };
         let (capacity, used, overflow) = (block.capacity(at), block.used(at), block.overflow(at));
@@ -250,8 +262,16 @@ mod tests {
         let report = example();
         assert_eq!((report.tiles, report.edges, report.nets, report.entries, report.vias), (3, 2, 2, 3, 2));
         assert_eq!(report.lengths, Lengths { work: 108, order: 2, answer: 3, print: 390 });
-        let layer =
-            |layer, used, share, full| Layer { layer, tracks: 2, used, share, full, overflowed: 0, overflow: 0 };
+        let layer = |layer, used, share, full| Layer {
+            layer,
+            runs: None,
+            tracks: 2,
+            used,
+            share,
+            full,
+            overflowed: 0,
+            overflow: 0,
+        };
         assert_eq!(report.by_layer, [layer(1, 2, 1.0, 2), layer(2, 1, 0.5, 1)]);
         assert_eq!(report.vias_by_level, [Level { lower: 1, upper: 2, vias: 2 }]);
         assert_eq!(report.most_vias, [Net { net: 1, vias: 2, edges: 2, pins: 2, pin_tiles: 2, score: 2500, turn: 2 }]);
@@ -266,6 +286,35 @@ mod tests {
         let refused = refusal_json("a", Refusal { number: 2, line: 7 }, "x");
         let value: serde_json::Value = serde_json::from_str(&refused).unwrap();
         assert_eq!(value["refused"]["line"], 7);
+    }
+
+    #[test]
+    fn directions_in_the_report() {
+        let report = Report::new("directed.job", &crate::figures::directed_example(), 10);
+        let value: serde_json::Value = serde_json::from_str(&report.json()).unwrap();
+        assert_eq!(value["dirs"], serde_json::json!(["h", "v", "h"]));
+        assert_eq!(value["limits"], serde_json::json!({ "east": 1, "north": 0 }));
+        let layer =
+            |place: usize| ["runs", "tracks", "used", "overflow"].map(|name| value["by_layer"][place][name].clone());
+        assert_eq!(layer(0), [serde_json::json!("h"), 4.into(), 3.into(), 1.into()]);
+        assert_eq!(layer(1), [serde_json::json!("v"), 3.into(), 1.into(), 0.into()]);
+        let told = table(&report, Style { unicode: false });
+        for words in [
+            "  layers            3 (h,v,h)\n",
+            "  edges of a layer  h 4, v 3\n",
+            "  flat overflow     total 2, maximum 2\n  limit of a layer  east 1, north 0\n",
+            "\n  layer  runs     tracks       used  tracks used",
+            "\n      2     v          3          1  ########................  33.3%",
+        ] {
+            assert!(told.contains(words), "no {words:?} in\n{told}");
+        }
+    }
+
+    #[test]
+    fn nothing_of_directions_without_their_line() {
+        let (told, json) = (table(&example(), Style { unicode: false }), example().json());
+        assert!(!told.contains("runs") && !told.contains("limit of a layer"), "{told}");
+        assert!(!["dirs", "limits", "runs"].iter().any(|name| json.contains(&format!("\"{name}\""))), "{json}");
     }
 
     #[test]

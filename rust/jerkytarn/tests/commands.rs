@@ -4,7 +4,7 @@ mod common;
 use common::*;
 use std::fs;
 
-const REFUSED: [(u32, u32, &str, &[&str]); 10] = [
+const REFUSED: [(u32, u32, &str, &[&str]); 12] = [
     // number, line, what is lent less of, words of the explanation
     (2, 13, "", &["2.job:13: refused 2", "pins=0,0,1; 2,0,1", "pin 2: x: ` 2` has spaces around the number", "^^^^^^"]),
     (3, 16, "", &["3.job:16: refused 3", "in pin 2 the layer is 3", "a layer from 1 to 2"]),
@@ -16,10 +16,12 @@ const REFUSED: [(u32, u32, &str, &[&str]); 10] = [
     (9, 3, "work=100", &["whole.job:3: refused 9", "100 working numbers lent", "108 or more"]),
     (10, 11, "order=1", &["whole.job:11: refused 10", "1 order entries lent", "2 or more"]),
     (11, 17, "print=389", &["whole.job:17: refused 11", "389 bytes of print buffer lent", "390 or more"]),
+    (12, 10, "", &["12.job:10: refused 12", "east=0,1", "entry 2 is 1", "layer 2 is `v` and carries no east edges"]),
+    (13, 15, "", &["13.job:15: refused 13", "edge 2, 1,0,n, goes north, and no layer is `v`", "`dirs=h,h`"]),
 ];
 
 fn example_of(number: u32) -> String {
-    let name = if number < 9 { number.to_string() } else { "whole".to_string() };
+    let name = if (9..=11).contains(&number) { "whole".to_string() } else { number.to_string() };
     format!("{}/src/explain/examples/{name}.job", env!("CARGO_MANIFEST_DIR"))
 }
 
@@ -105,7 +107,7 @@ fn check_tells_the_figures() {
 
 #[test]
 fn explain_says_each_number() {
-    for number in 1..=11 {
+    for number in 1..=13 {
         let output = run(["explain", &number.to_string()]);
         assert_eq!(status(&output), 0);
         let told = text(&output.stdout);
@@ -114,8 +116,8 @@ fn explain_says_each_number() {
             assert!(told.contains(&format!("  {word} ")), "no {word} in\n{told}");
         }
     }
-    assert_eq!(text(&run(["explain"]).stdout).lines().filter(|line| line.starts_with("  ")).count(), 11);
-    for wrong in ["0", "12", "x", "-1"] {
+    assert_eq!(text(&run(["explain"]).stdout).lines().filter(|line| line.starts_with("  ")).count(), 13);
+    for wrong in ["0", "14", "x", "-1"] {
         assert_eq!(status(&run(["explain", wrong])), 2);
     }
 }
@@ -138,6 +140,98 @@ fn report_as_table_and_as_json() {
     let json: serde_json::Value = serde_json::from_slice(&output.stdout).unwrap();
     assert_eq!((&json["refused"]["number"], &json["refused"]["line"]), (&5.into(), &13.into()));
     assert_eq!(text(&run(["report", &example_of(5)]).stdout), "refused=5,13\n");
+}
+
+#[test]
+fn directions_are_planned() {
+    assert_eq!(run(["plan", DIRECTED]).stdout, fs::read(DIRECTED_PLAN).unwrap());
+    // tracks on no layer: the edge goes to the one layer that runs its way, though the pins are on the other
+    let head = "width=2\nheight=1\nlayers=2\ndirs=h,v\nalpha=1\nbeta=1\ngamma=0\neast=0\nnorth=\neast=0\nnorth=\n";
+    let net = |number: usize| format!("net={number}\npins=0,0,2;1,0,2\nedges=0,0,e\n");
+    let one = run_with(&["plan", "-"], format!("{head}nets=1\n{}", net(1)).as_bytes());
+    assert_eq!(text(&one.stdout), "order=1\nnet=1\nvias=2\nlayers=1\ntotal_vias=2\ntotal_overflow=1\nmax_overflow=1\n");
+    let two = run_with(&["plan", "-"], format!("{head}nets=2\n{}{}", net(1), net(2)).as_bytes());
+    assert_eq!(
+        text(&two.stdout),
+        "order=1,2\nnet=1\nvias=2\nlayers=1\nnet=2\nvias=2\nlayers=1\n\
+         total_vias=4\ntotal_overflow=2\nmax_overflow=2\n"
+    );
+}
+
+#[test]
+fn directions_are_told() {
+    let told = text(&run(["check", DIRECTED]).stdout);
+    for line in [
+        "  layers            3 (h,v,h)\n",
+        "  edges of a layer  h 4, v 3\n",
+        "  flat overflow     total 2, maximum 2\n",
+        "  limit of a layer  east 1, north 0\n",
+        "  layered overflow  total 2, maximum 1\n",
+        "  vias              4\n",
+        "  storage to lend   work 248, order 4, answer 6, print 524\n",
+    ] {
+        assert!(told.contains(line), "no {line:?} in\n{told}");
+    }
+    let table = text(&run(["report", DIRECTED]).stdout);
+    assert!(table.contains("\n  layer  runs     tracks") && table.contains("\n      2     v          3"), "{table}");
+    let json: serde_json::Value = serde_json::from_slice(&run(["report", "--json", DIRECTED]).stdout).unwrap();
+    assert_eq!(json["dirs"], serde_json::json!(["h", "v", "h"]));
+    assert_eq!(json["limits"], serde_json::json!({ "east": 1, "north": 0 }));
+    assert_eq!(json["by_layer"][2]["runs"], "h");
+    let folder = Folder::new();
+    let picture = folder.path("a.svg");
+    assert_eq!(status(&run(["draw", DIRECTED, "-o", picture.to_str().unwrap()])), 0);
+    let drawn = fs::read_to_string(picture).unwrap();
+    assert!(drawn.contains("Layer 2 (v)") && drawn.contains("(h): a layer for east edges only"));
+}
+
+/// That the example with directions, with a line put in the place of another, is refused so and told in these words.
+fn expect_directed(number: u32, line: u32, new: &str, lend: &str, words: &[&str]) {
+    let job = with_line(&fs::read_to_string(DIRECTED).unwrap(), line as usize, new);
+    let output = run_with(&["plan", "-", "--lend", lend], job.as_bytes());
+    assert_eq!(text(&output.stdout), format!("refused={number},{line}\n"), "{new:?}, lent {lend}");
+    let told = text(&output.stderr);
+    for word in words {
+        assert!(told.contains(word), "no {word:?} in\n{told}");
+    }
+}
+
+#[test]
+fn refusals_of_jobs_with_directions() {
+    let enough = "work=248";
+    // the line itself: its form comes before the working numbers, which it then tells of
+    expect_directed(2, 4, "dirs=h,V,h\n", "work=0", &["letter 2: `V` is not `h` or `v`", "write the letters small"]);
+    expect_directed(2, 4, "dirs=h,v\n", enough, &["2 letters", "`dirs=` with 3 letters"]);
+    expect_directed(2, 4, "dirs=hv,h\n", enough, &["put a comma between two letters"]);
+    expect_directed(2, 4, "dirs=\n", enough, &["0 letters"]);
+    expect_directed(2, 4, "dirs =h,v,h\n", enough, &["begin the line with `dirs=`"]);
+    expect_directed(2, 5, "dirs=h,v,h\n", enough, &["there is one such line"]);
+    expect_directed(9, 4, "dirs=h,v,h\n", "work=247", &["247 working numbers lent", "248 or more"]);
+    assert_eq!(text(&run_with(&["plan", "-"], b"width=3\nheight=2\nlayers=3\ndirs=h,v,h").stdout), "refused=2,4\n");
+    // a capacity line: 2, 3, 12
+    expect_directed(2, 10, "east=1,0,0\n", enough, &["3 entries"]);
+    expect_directed(3, 10, "east=1,0,0,256\n", enough, &["entry 4 is 256"]);
+    expect_directed(12, 10, "east=0,0,7,1\n", enough, &["entry 3 is 7", "layer 2 is `v`", "`h` for layer 2 on line 4"]);
+    expect_directed(12, 13, "north=0,0,1\n", enough, &["entry 3 is 1", "layer 3 is `h` and carries no north edges"]);
+    // 10 and 11 on lines that have moved
+    expect_directed(10, 14, "nets=4\n", "order=3", &["3 order entries lent", "4 or more"]);
+    expect_directed(11, 26, "edges=1,0,e\n", "answer=5", &["5 bytes of answer list lent", "6 or more"]);
+}
+
+#[test]
+fn an_edge_without_a_layer_comes_after_8_and_before_11() {
+    let job = fs::read_to_string(DIRECTED).unwrap();
+    let flat = with_line(&with_line(&job, 4, "dirs=h,h,h\n"), 11, "north=0,0,0\n");
+    let refused = |edges: &str, lend: &str| {
+        let job = with_line(&flat, 17, edges);
+        text(&run_with(&["plan", "-", "--lend", lend], job.as_bytes()).stdout)
+    };
+    assert_eq!(refused("edges=0,0,e;2,0,n\n", "answer=0"), "refused=8,17\n");
+    assert_eq!(refused("edges=0,0,e;1,0,e;2,0,n\n", "answer=0"), "refused=13,17\n");
+    assert_eq!(refused("edges=0,0,e;1,0,e;2,0,n;2,0,n\n", "answer=0"), "refused=6,17\n");
+    // no net goes north: a direction without a layer is no fault by itself
+    let job = with_line(&with_line(&flat, 17, "edges=0,0,e;1,0,e\n"), 16, "pins=0,0,1;2,0,1\n");
+    assert_eq!(status(&run_with(&["plan", "-"], job.as_bytes())), 0);
 }
 
 #[test]

@@ -71,15 +71,17 @@ fn damaged_texts_through_every_command() {
 #[test]
 fn every_refusal_of_a_damaged_text_says_what_was_found() {
     let words = |damage: Damage| match damage {
-        Damage::Cut => "line feed|the text ends",
+        Damage::Cut => "line feed|the text ends|the text is empty",
         Damage::Drop | Damage::Double | Damage::Swap => {
-            "the key|the text ends|text after|a net more|line feed|net number|part|not"
+            "the key|the text ends|text after|a net more|line feed|net number|part|not|entry"
         }
         Damage::Turn => "net number",
         Damage::PinTwice | Damage::EdgeTwice => "again as entry",
         Damage::Ring => "closes a ring with",
         Damage::Off => "is not reached from the first pin's tile",
-        Damage::Zero => "has a zero before other digits|entry|`0`|number",
+        Damage::Closed => "entry",
+        Damage::NoLayer => "no layer is",
+        Damage::Zero => "has a zero before other digits|entry|`0`|number|letter",
         Damage::Limit => " is |leaves the grid",
         _ => "",
     };

@@ -128,7 +128,12 @@ fn the_page_shows_what_the_library_gave() {
         let (layer, edge) = planned.busiest().expect("a net with edges");
         let net = *planned.on(layer, edge).last().unwrap();
         expect_counts(&folder, &page, &planned, layer, edge, net);
-        expect_counts(&folder, &page, &planned, planned.job.layers as u8, planned.job.grid.edges() - 1, 1);
+        // the last edge, on the highest layer that carries it
+        let own = jerkytarn::job::read(&job).unwrap();
+        let last = own.grid.edges() - 1;
+        if let Some(layer) = (1..=own.layers).rev().find(|layer| own.carries(*layer, own.grid.named(last).1)) {
+            expect_counts(&folder, &page, &planned, layer as u8, last, 1);
+        }
     }
 }
 
@@ -157,14 +162,34 @@ fn the_largest_block_opens_fast_enough() {
     assert!(ready < 5000, "ready after {ready} ms");
 }
 
-/// Keys and clicks, each with what should then be so; run inside the page.
-const INTERACTION: &str = r#"
+/// What the steps below are told with; run inside the page.
+const HARNESS: &str = r#"
 <script>
 {
   const told = [];
   const expect = (what, value, wanted) => { if (JSON.stringify(value) !== JSON.stringify(wanted)) told.push(`${what}: ${JSON.stringify(value)}`); };
   const press = (target, key) => target.dispatchEvent(new KeyboardEvent('keydown', { key, bubbles: true, cancelable: true }));
   const at = () => state.at && [state.at.layer, state.at.x, state.at.y, state.at.way];
+  STEPS
+  root.dataset.interaction = told.join('; ') || 'as expected';
+}
+</script>
+</body>"#;
+
+/// Runs these steps in the page of a job, each with what should then be so, and tells what was not.
+fn interaction(job: &str, steps: &str) -> String {
+    let folder = Folder::new();
+    let page = drawn_page(&folder, &fs::read(job).unwrap());
+    let harness = HARNESS.replace("STEPS", steps);
+    let with_steps = fs::read_to_string(&page).unwrap().replace("</body>", &harness);
+    let page = folder.file("keys.html", with_steps.as_bytes());
+    let shown = opened(&folder, &page, "");
+    let told = shown.split("data-interaction=\"").nth(1).expect("the steps were taken");
+    told[..told.find('"').unwrap()].to_string()
+}
+
+/// Keys and clicks on the page of the example.
+const KEYS_AND_POINTER: &str = r#"
   const canvas = maps[0].canvas;
   canvas.focus();
   expect('focus', at(), [1, 0, 0, '']);
@@ -212,20 +237,64 @@ const INTERACTION: &str = r#"
   expect('dark', [root.dataset.theme, palette.paper], ['dark', '#12161c']);
   press(canvas, '+');
   expect('large', maps[0].figure.classList.contains('large'), true);
-  root.dataset.interaction = told.join('; ') || 'as expected';
-}
-</script>
-</body>"#;
+"#;
 
 #[test]
 fn the_page_answers_to_keys_and_pointer() {
-    let folder = Folder::new();
-    let page = drawn_page(&folder, &fs::read(EXAMPLE).unwrap());
-    let with_keys = fs::read_to_string(&page).unwrap().replace("</body>", INTERACTION);
-    let page = folder.file("keys.html", with_keys.as_bytes());
-    let shown = opened(&folder, &page, "");
-    let told = shown.split("data-interaction=\"").nth(1).expect("the keys were pressed");
-    assert!(told.starts_with("as expected\""), "{}", &told[..told.find('"').unwrap()]);
+    assert_eq!(interaction(EXAMPLE, KEYS_AND_POINTER), "as expected");
+}
+
+/// The page of the example with directions: layers 1 and 3 carry east edges, layer 2 north edges.
+const DIRECTIONS: &str = r#"
+  expect('titles', [...document.querySelectorAll('figcaption strong')].map((title) => title.textContent), ['Layer 1 (h)', 'Layer 2 (v)', 'Layer 3 (h)', 'Vias']);
+  expect('legend', byId('runs').hidden, false);
+  expect('figures', byId('figures').textContent.includes('3 layers (h,v,h) ·'), true);
+  expect('limits', byId('figures').textContent.endsWith('at most 2; limit of a layer east 1, north 0)'), true);
+  const canvas = maps[1].canvas;
+  canvas.focus();
+  expect('focus', at(), [2, 0, 0, '']);
+  press(canvas, 'ArrowRight');
+  expect('right, where no east edge is', at(), [2, 1, 0, '']);
+  press(canvas, 'ArrowUp');
+  expect('up to the north edge', at(), [2, 1, 0, 'n']);
+  press(canvas, 'ArrowRight');
+  expect('to the edge beside it', at(), [2, 2, 0, 'n']);
+  expect('words of the edge', document.querySelector('#place h3').textContent, 'Layer 2 (v), 2,0 → 2,1');
+  press(canvas, 'PageUp');
+  expect('a layer without north edges', at(), [3, 2, 0, '']);
+  press(maps[2].canvas, 'ArrowLeft');
+  expect('left to the east edge', at(), [3, 1, 0, 'e']);
+  press(maps[2].canvas, 'PageDown');
+  expect('a layer without east edges', at(), [2, 1, 0, '']);
+  const box = canvas.getBoundingClientRect();
+  const point = (x, y) => {
+    const [left, top] = maps[1].middle(x, y);
+    canvas.dispatchEvent(new PointerEvent('pointermove', { clientX: box.left + left, clientY: box.top + top, bubbles: true }));
+  };
+  point(0.3, 0);
+  expect('pointed between tiles', at(), [2, 0, 0, '']);
+  point(0, 0.5);
+  expect('pointed at a north edge', at(), [2, 0, 0, 'n']);
+  choose({ at: null, held: false });
+  location.hash = '#edge=2,0,0,e';
+  readAddress();
+  expect('an address of no edge', at(), null);
+  location.hash = '#edge=2,0,0,n';
+  readAddress();
+  expect('an address', at(), [2, 0, 0, 'n']);
+"#;
+
+#[test]
+fn the_page_knows_directions() {
+    assert_eq!(interaction(DIRECTED, DIRECTIONS), "as expected");
+}
+
+#[test]
+fn a_page_without_directions_says_nothing_of_them() {
+    let steps = "expect('legend', byId('runs').hidden, true);
+        expect('titles', [maps[0].figure, maps[1].figure].map((map) => map.querySelector('strong').textContent), ['Layer 1', 'Layer 2']);
+        expect('figures', byId('figures').textContent.includes('limit of a layer'), false);";
+    assert_eq!(interaction(EXAMPLE, steps), "as expected");
 }
 
 #[test]

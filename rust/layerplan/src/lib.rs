@@ -1,8 +1,8 @@
 //! A verified layer assignment for flat wiring plans.
 //!
-//! In: a flat wiring plan as a text, every net a tree over a grid of tiles, with track counts for each layer. Out: the
-//! layer of every edge of every net, with as few vias as each net can have at its turn and exactly the overflow that
-//! cannot be avoided; or one numbered [`Refusal`] with its line.
+//! In: a flat wiring plan as a text, every net a tree over a grid of tiles, with track counts for each layer and, if the
+//! layers have one, the direction in which each runs. Out: the layer of every edge of every net, with as few vias as each
+//! net can have at its turn and exactly the overflow that cannot be avoided; or one numbered [`Refusal`] with its line.
 //!
 //! The work is done by a static library whose functions are proved to do what the definitions say, for every text and
 //! all lengths of the lent slices. This crate only lends it safe slices. There is no heap behind it: the caller lends
@@ -58,7 +58,7 @@ pub struct Printed {
 /// Why a job is not accepted. [`Display`](fmt::Display) says it in words.
 #[derive(Clone, Copy, PartialEq, Eq, Debug)]
 pub struct Refusal {
-    /// 1 to 11.
+    /// 1 to 13.
     pub number: u32,
     /// The line of the text, counted from 1; 0 for refusal 1. A missing line has the number that it would have had.
     pub line: u32,
@@ -77,7 +77,9 @@ impl fmt::Display for Refusal {
             8 => "a pin or edge not reached from the first pin's tile along the edges",
             9 => "fewer working numbers than needed",
             10 => "fewer order entries than nets",
-            _ => "answer list or print buffer too short",
+            11 => "answer list or print buffer too short",
+            12 => "a nonzero capacity on a layer that runs the other way",
+            _ => "an edge whose direction has no layer",
         };
         write!(out, "refused={},{}: {why}", self.number, self.line)
     }

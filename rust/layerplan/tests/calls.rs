@@ -123,8 +123,16 @@ fn refusals() {
     assert_eq!(with("2,0,1", "0,0,1"), (5, 13));
     assert_eq!(with("1,0,e", "0,0,e"), (6, 14));
     assert_eq!(with("edges=0,0,e;1,0,e", "edges=1,0,e"), (8, 14));
-    let words = Refusal { number: 9, line: 3 }.to_string();
-    assert_eq!(words, "refused=9,3: fewer working numbers than needed");
+    assert_eq!(with("alpha=1", "dirs=h;h\nalpha=1"), (2, 4));
+    assert_eq!(with("alpha=1", "dirs=h,v\nalpha=1"), (12, 10));
+    let across = "width=2\nheight=1\nlayers=2\ndirs=v,v\nalpha=1\nbeta=1\ngamma=0\neast=0\nnorth=\neast=0\nnorth=\n\
+        nets=1\nnet=1\npins=0,0,1\nedges=0,0,e\n";
+    assert_eq!(refused(across.as_bytes()), Refusal { number: 13, line: 15 });
+    let words = |number: u32| Refusal { number, line: 3 }.to_string();
+    assert_eq!(words(9), "refused=9,3: fewer working numbers than needed");
+    assert_eq!(words(11), "refused=11,3: answer list or print buffer too short");
+    assert_eq!(words(12), "refused=12,3: a nonzero capacity on a layer that runs the other way");
+    assert_eq!(words(13), "refused=13,3: an edge whose direction has no layer");
 }
 
 #[test]

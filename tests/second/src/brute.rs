@@ -7,27 +7,62 @@
 //! follows that any order of the edges gives the same plan, and that a wrong walk does not show in a plan.
 
 use crate::calls::Returned;
-use crate::job::{Job, Net};
+use crate::job::{Direction, Job, Net};
 use crate::plan::Entry;
 use std::collections::BTreeSet;
 
+/// The layers that an edge may use: 1 to K, without those that run the other way.
+fn allowed(job: &Job, edge: usize) -> Vec<u8> {
+    let mut layers: Vec<u8> = (1..=job.layers as u8).collect();
+    if let Some(dirs) = &job.dirs {
+        let (_, east) = job.grid.named(edge);
+        layers.retain(|layer| dirs[usize::from(*layer) - 1] == if east { Direction::East } else { Direction::North });
+    }
+    layers
+}
+
 /// The number of layerings of a job, if it is at most `most`.
 pub fn layerings(job: &Job, most: u64) -> Option<u64> {
-    let count = (job.layers as u64).checked_pow(job.entries() as u32)?;
+    let edges = job.nets.iter().flat_map(|net| &net.edges);
+    let count = edges.map(|edge| allowed(job, *edge).len() as u64).try_fold(1, u64::checked_mul)?;
     Some(count).filter(|count| *count <= most)
 }
 
-/// All lists of this length with entries from 1 to K, in dictionary order.
-fn choices(length: usize, layers: usize) -> impl Iterator<Item = Vec<u8>> {
-    let count = (layers as u64).pow(length as u32);
+/// All lists with a layer for each of these edges, along the allowed layers only, in dictionary order.
+fn choices<'a>(job: &Job, edges: impl Iterator<Item = &'a usize>) -> impl Iterator<Item = Vec<u8>> {
+    let allowed: Vec<Vec<u8>> = edges.map(|edge| allowed(job, *edge)).collect();
+    let count: u64 = allowed.iter().map(|layers| layers.len() as u64).product();
     (0..count).map(move |mut number| {
-        let mut list = vec![1; length];
-        for entry in list.iter_mut().rev() {
-            *entry += (number % layers as u64) as u8;
-            number /= layers as u64;
+        let mut list = vec![0; allowed.len()];
+        for (entry, layers) in list.iter_mut().zip(&allowed).rev() {
+            *entry = layers[(number % layers.len() as u64) as usize];
+            number /= layers.len() as u64;
         }
         list
     })
+}
+
+/// The maximum that an edge counts for: the only one, or with a `dirs` line that of its direction, east or north.
+fn group(job: &Job, edge: usize) -> usize {
+    let (_, east) = job.grid.named(edge);
+    usize::from(job.dirs.is_some() && !east)
+}
+
+/// The number of layers behind each maximum.
+fn layers_by_group(job: &Job) -> Vec<u64> {
+    let Some(dirs) = &job.dirs else { return vec![job.layers as u64] };
+    let layers = |direction| dirs.iter().filter(|other| **other == direction).count() as u64;
+    vec![layers(Direction::East), layers(Direction::North)]
+}
+
+/// Each maximum of these overflows, of which every edge has `each`; 0 where there are no edges.
+fn maxima(job: &Job, overflows: &[u64], each: usize) -> Vec<u64> {
+    let mut maxima = vec![0; layers_by_group(job).len()];
+    for (edge, overflows) in overflows.chunks(each).enumerate() {
+        let maximum = &mut maxima[group(job, edge)];
+        *maximum = overflows.iter().copied().fold(*maximum, u64::max);
+    }
+    maxima
 }
 
 /// The overflow of every layer of every edge, if each entry of the job's `edges` lines, in job order, is on the layer
@@ -96,12 +131,13 @@ pub fn walk_order(job: &Job, net: &Net) -> Vec<usize> {
 /// Checks the plan of an accepted job against demand 3, and against the tie rule. Returns how many layerings there were.
 pub fn check(job: &Job, order: &[Entry], answer: &[u8], returned: &Returned) -> Result<u64, String> {
     let claim = |holds: bool, what: &str| if holds { Ok(()) } else { Err(what.to_string()) };
-    let stack = job.layers as u8;
     let nets = job.nets.len();
+    let all_edges = || job.nets.iter().flat_map(|net| &net.edges);
 
-    // the plan is a layering: one layer from 1 to K for each edge of each net
+    // the plan is a layering: one layer that the edge may use for each edge of each net
     claim(answer.len() == job.entries(), "the answer list has one byte for each entry")?;
-    claim(answer.iter().all(|layer| (1..=stack).contains(layer)), "the answer list holds layers")?;
+    let is_layering = all_edges().zip(answer).all(|(edge, layer)| allowed(job, *edge).contains(layer));
+    claim(is_layering, "the answer list holds layers that the edges may use")?;
     let start = |net: usize| job.nets[..net].iter().map(|net| net.edges.len()).sum::<usize>();
     let part = |net: usize| start(net)..start(net) + job.nets[net].edges.len();
 
@@ -132,13 +168,19 @@ pub fn check(job: &Job, order: &[Entry], answer: &[u8], returned: &Returned) -> 
     // the flat plan
     let flat: Vec<u64> = (0..job.grid.edges()).map(|edge| users(&edge).saturating_sub(tracks(&edge))).collect();
     let total: u64 = flat.iter().sum();
-    let mo = flat.iter().copied().max().unwrap_or(0);
-    let maximum = mo / job.layers as u64 + u64::from(mo % job.layers as u64 > 0);
+    let rounded_up = |(most, layers): (u64, u64)| match layers {
+        0 => 0,
+        _ => most / layers + u64::from(most % layers > 0),
+    };
+    let limits: Vec<u64> = maxima(job, &flat, 1).into_iter().zip(layers_by_group(job)).map(rounded_up).collect();
 
-    // the plan has just that total and just that rounded-up maximum, and these and its vias are returned
+    // the plan has just that total and just the rounded-up maximum, with a `dirs` line that of each direction; the total,
+    // the largest overflow of all and the vias are returned
     let of_plan = overflows(job, answer);
     claim(of_plan.iter().sum::<u64>() == total, "the plan's total is that of the flat plan")?;
-    claim(of_plan.iter().copied().max().unwrap_or(0) == maximum, "the plan's maximum is MO / K rounded up")?;
+    let as_limited = maxima(job, &of_plan, job.layers) == limits;
+    claim(as_limited, "the plan's maximum is that of the flat plan by the number of layers, rounded up")?;
+    let maximum = of_plan.iter().copied().max().unwrap_or(0);
     let all_vias: u64 = (0..nets).map(|net| vias(job, &job.nets[net], &answer[part(net)])).sum();
     claim(returned.vias == all_vias, "the returned vias are the plan's")?;
     claim((returned.total, returned.maximum) == (total, maximum), "the returned overflow is the plan's")?;
@@ -146,13 +188,14 @@ pub fn check(job: &Job, order: &[Entry], answer: &[u8], returned: &Returned) -> 
     // no layering is below; and the choices that are to be considered at each turn
     let mut considered: Vec<BTreeSet<Vec<u8>>> = vec![BTreeSet::new(); nets];
     let mut count = 0;
-    for layering in choices(job.entries(), job.layers) {
+    for layering in choices(job, all_edges()) {
         count += 1;
         let overflows = overflows(job, &layering);
-        let (sum, highest) = (overflows.iter().sum::<u64>(), overflows.iter().copied().max().unwrap_or(0));
+        let (sum, highest) = (overflows.iter().sum::<u64>(), maxima(job, &overflows, job.layers));
+        let each = |holds: fn(&u64, &u64) -> bool| highest.iter().zip(&limits).all(|(one, limit)| holds(one, limit));
         claim(sum >= total, "no layering has a lower total")?;
-        claim(highest >= maximum, "no layering has a lower maximum")?;
-        if sum == total && highest <= maximum {
+        claim(each(u64::ge), "no layering has a lower maximum")?;
+        if sum == total && each(u64::le) {
             for (turn, net) in by_turn.iter().enumerate() {
                 considered[turn].insert(layering[part(*net)].to_vec());
                 if layering[part(*net)] != answer[part(*net)] {
@@ -176,13 +219,14 @@ pub fn check(job: &Job, order: &[Entry], answer: &[u8], returned: &Returned) -> 
             earlier[part(*net)].copy_from_slice(&answer[part(*net)]);
         }
         let mut legal: Vec<Vec<u8>> = Vec::new();
-        for choice in choices(edges.len(), job.layers) {
+        for choice in choices(job, edges.iter()) {
             let mut with = earlier.clone();
             with[part(*net)].copy_from_slice(&choice);
             let overflows = overflows(job, &with);
             let layer_fits = |(edge, layer): (&usize, &u8)| {
                 let of_edge = &overflows[edge * job.layers..(edge + 1) * job.layers];
-                of_edge[usize::from(*layer) - 1] <= maximum && of_edge.iter().sum::<u64>() <= flat[*edge]
+                of_edge[usize::from(*layer) - 1] <= limits[group(job, *edge)]
+                    && of_edge.iter().sum::<u64>() <= flat[*edge]
             };
             if edges.iter().zip(&choice).all(layer_fits) {
                 legal.push(choice);

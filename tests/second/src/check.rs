@@ -3,8 +3,9 @@
 //! instead of combinations, that no choice has fewer vias and that none with as few comes before it in walk order.
 //! The walks are compared as such: plans alone would not show a wrong walk (see `brute`).
 
-use crate::job::{Job, Net};
+use crate::job::{Direction, Job, Net};
 use crate::plan::{vias, walk, Plan};
+use std::ops::Range;
 
 fn claim(holds: bool, what: impl Fn() -> String) -> Result<(), String> {
     if holds {
@@ -19,8 +20,8 @@ struct Metal<'a> {
     job: &'a Job,
     /// o(e) of the flat plan.
     flat: Vec<u64>,
-    /// MO / K rounded up.
-    limit: u64,
+    /// By edge: the most overflow of one layer.
+    limit: Vec<u64>,
     /// By edge, then layer from 0.
     load: Vec<Vec<u64>>,
 }
@@ -34,11 +35,16 @@ impl Metal<'_> {
         (0..self.job.layers).map(|layer| self.overflow(edge, layer)).sum()
     }
 
-    /// Whether one more net may use this layer (from 1) of the edge: there is a track, or one more overflow is allowed.
+    /// Whether one more net may use this layer (from 1) of the edge: the layer runs along the edge or any way, and there
+    /// is a track, or one more overflow is allowed.
     fn allows(&self, edge: usize, layer: u8) -> bool {
         let l = usize::from(layer) - 1;
+        let runs_across = match (&self.job.dirs, self.job.grid.named(edge)) {
+            (None, _) => false,
+            (Some(dirs), (_, east)) => (dirs[l] == Direction::East) != east,
+        };
         let track = self.load[edge][l] < self.job.capacity[l][edge];
-        track || (self.overflow(edge, l) < self.limit && self.sum(edge) < self.flat[edge])
+        !runs_across && (track || (self.overflow(edge, l) < self.limit[edge] && self.sum(edge) < self.flat[edge]))
     }
 }
 
@@ -160,6 +166,24 @@ fn check_net(metal: &Metal, net: &Net, layers: &[u8]) -> Result<(), String> {
     Ok(())
 }
 
+/// The edges that have one limit in common, each time with the number of layers that they share: all edges, or with a
+/// `dirs` line those to the east and those to the north.
+fn sharing(job: &Job) -> Vec<(Range<usize>, u64)> {
+    let (edges, east) = (job.grid.edges(), job.grid.east_edges());
+    match &job.dirs {
+        None => vec![(0..edges, job.layers as u64)],
+        Some(dirs) => {
+            let horizontal = dirs.iter().filter(|direction| **direction == Direction::East).count() as u64;
+            vec![(0..east, horizontal), (east..edges, job.layers as u64 - horizontal)]
+        }
+    }
+}
+
+/// The largest of some numbers, 0 where there are none.
+fn largest(numbers: impl Iterator<Item = u64>) -> u64 {
+    numbers.max().unwrap_or(0)
+}
+
 /// All that is checked of a plan of any size.
 pub fn check(job: &Job, plan: &Plan) -> Result<(), String> {
     let edges = job.grid.edges();
@@ -167,8 +191,13 @@ pub fn check(job: &Job, plan: &Plan) -> Result<(), String> {
     job.nets.iter().flat_map(|net| &net.edges).for_each(|edge| demand[*edge] += 1u64);
     let tracks: Vec<u64> = (0..edges).map(|e| job.capacity.iter().map(|layer| layer[e]).sum()).collect();
     let flat: Vec<u64> = (0..edges).map(|e| demand[e].max(tracks[e]) - tracks[e]).collect();
-    let most = flat.iter().copied().max().unwrap_or(0);
-    let limit = (0..).find(|limit| limit * job.layers as u64 >= most).unwrap();
+    let mut limit = vec![0; edges];
+    for (part, layers) in sharing(job) {
+        let most = largest(flat[part.clone()].iter().copied());
+        // an accepted job has no net, so no overflow, on edges without a layer
+        let least = (0..=most).find(|limit| limit * layers >= most);
+        limit[part].fill(least.expect("edges with overflow have a layer"));
+    }
     let mut metal = Metal { job, flat, limit, load: vec![vec![0; job.layers]; edges] };
 
     claim(plan.order.len() == job.nets.len() && plan.layers.len() == job.nets.len(), || "lengths".to_string())?;
@@ -200,15 +229,18 @@ pub fn check(job: &Job, plan: &Plan) -> Result<(), String> {
         }
     }
 
-    // each edge has just its flat overflow, and the maximum is just MO / K rounded up
+    // each edge has just its flat overflow, and each maximum is just the limit
     for edge in 0..edges {
         let sum = metal.sum(edge);
         claim(sum == metal.flat[edge], || format!("edge {edge}: overflow {sum}, flat {}", metal.flat[edge]))?;
     }
-    let highest =
-        (0..edges).flat_map(|e| (0..job.layers).map(move |l| (e, l))).map(|(e, l)| metal.overflow(e, l)).max();
-    claim(highest.unwrap_or(0) == limit, || format!("maximum {highest:?}, limit {limit}"))?;
+    for (part, _) in sharing(job) {
+        let limit = largest(part.clone().map(|edge| metal.limit[edge]));
+        let highest =
+            largest(part.flat_map(|e| (0..job.layers).map(move |l| (e, l))).map(|(e, l)| metal.overflow(e, l)));
+        claim(highest == limit, || format!("maximum {highest}, limit {limit}"))?;
+    }
     claim(plan.total_overflow == metal.flat.iter().sum::<u64>(), || "total overflow".to_string())?;
-    claim(plan.max_overflow == limit, || "maximum overflow".to_string())?;
+    claim(plan.max_overflow == largest(metal.limit.iter().copied()), || "maximum overflow".to_string())?;
     claim(plan.total_vias == plan.vias.iter().sum::<u64>(), || "total vias".to_string())
 }

@@ -1,6 +1,6 @@
 //! Jobs, damaged texts and lent lengths, each drawn from a seed alone.
 
-use crate::job::{Grid, Job, Lengths, Net, Pin, Refusal, TEXT_LIMIT};
+use crate::job::{Direction, Grid, Job, Lengths, Net, Pin, Refusal, EAST, TEXT_LIMIT, WEST};
 use std::collections::BTreeSet;
 
 /// The generator of random numbers (splitmix64).
@@ -95,9 +95,9 @@ enum Growth {
     Fishbone,
 }
 
-/// A tree with at most this many edges, on a random place in the grid.
-fn tree(rng: &mut Rng, grid: Grid, most: usize, growth: Growth) -> Vec<usize> {
-    if let Growth::Fishbone = growth {
+/// A tree with at most this many edges, on a random place in the grid, along these ways out of a tile.
+fn tree(rng: &mut Rng, grid: Grid, ways: &[usize], most: usize, growth: Growth) -> Vec<usize> {
+    if let (Growth::Fishbone, 4) = (growth, ways.len()) {
         return fishbone(rng, grid);
     }
     let mut start = rng.below(grid.tiles());
@@ -117,8 +117,8 @@ fn tree(rng: &mut Rng, grid: Grid, most: usize, growth: Growth) -> Vec<usize> {
             Growth::Comb if on_spine => open.len() - 1,
             _ => rng.below(open.len()),
         };
-        let ways = (0..4).filter_map(|way| grid.way(open[place], way));
-        let free: Vec<(usize, usize)> = ways.filter(|(tile, _)| !inside.contains(tile)).collect();
+        let around = ways.iter().filter_map(|way| grid.way(open[place], *way));
+        let free: Vec<(usize, usize)> = around.filter(|(tile, _)| !inside.contains(tile)).collect();
         if free.is_empty() {
             open.remove(place);
             continue;
@@ -184,8 +184,12 @@ fn stack(rng: &mut Rng, pins: &mut Vec<Pin>, layers: usize) {
     }
 }
 
-fn net(rng: &mut Rng, grid: Grid, layers: usize, edges: usize, growth: Growth) -> Net {
-    let mut edges = tree(rng, grid, edges, growth);
+/// A net of the job with at most this many edges; no edge goes a way that no layer runs.
+fn net(rng: &mut Rng, job: &Job, edges: usize, growth: Growth) -> Net {
+    let Job { grid, layers, .. } = *job;
+    let direction = |way: usize| if [EAST, WEST].contains(&way) { Direction::East } else { Direction::North };
+    let ways: Vec<usize> = (0..4).filter(|way| job.has_layer(direction(*way))).collect();
+    let mut edges = tree(rng, grid, &ways, edges, growth);
     rng.shuffle(&mut edges);
     let mut net = Net { pins: Vec::new(), edges };
     let tiles: Vec<usize> = net.tiles(grid).into_iter().collect();
@@ -199,7 +203,43 @@ fn net(rng: &mut Rng, grid: Grid, layers: usize, edges: usize, growth: Growth) -
     net
 }
 
-/// A valid job of this kind.
+/// The letters of a `dirs` line: mostly both, by turns or in any order. Unless `both` is asked for, now and then just one.
+fn directions(rng: &mut Rng, layers: usize, both: bool) -> Vec<Direction> {
+    let one = rng.pick(&[Direction::East, Direction::North]);
+    let other = other(one);
+    if !both && rng.chance(1, 6) {
+        return vec![one; layers];
+    }
+    if rng.chance(1, 3) {
+        return (0..layers).map(|layer| if layer % 2 == 0 { one } else { other }).collect();
+    }
+    let mut dirs = vec![one; rng.range(1, layers - 1)];
+    dirs.resize(layers, other);
+    rng.shuffle(&mut dirs);
+    dirs
+}
+
+fn other(direction: Direction) -> Direction {
+    match direction {
+        Direction::East => Direction::North,
+        Direction::North => Direction::East,
+    }
+}
+
+/// No tracks where a layer runs the other way.
+fn close(job: &mut Job) {
+    for (layer, edge) in closed(job) {
+        job.capacity[layer - 1][edge] = 0;
+    }
+}
+
+/// The layers and edges that do not go together.
+fn closed(job: &Job) -> Vec<(usize, usize)> {
+    let all = (1..=job.layers).flat_map(|layer| (0..job.grid.edges()).map(move |edge| (layer, edge)));
+    all.filter(|(layer, edge)| !job.may_use(*edge, *layer as u8)).collect()
+}
+
+/// A valid job of this kind; about half of them have a `dirs` line.
 pub fn job(rng: &mut Rng, kind: Kind) -> Job {
     let side = |rng: &mut Rng, low: usize, high: usize| match rng.below(8) {
         0 => low,
@@ -229,6 +269,9 @@ pub fn job(rng: &mut Rng, kind: Kind) -> Job {
     }
     let grid = Grid { width, height };
     let layers = if kind == Kind::Largest { 8 } else { side(rng, 2, 8) };
+    let full = [Kind::Full, Kind::Largest].contains(&kind);
+    // along one direction alone, the nets would not fill a text
+    let dirs = if rng.chance(1, 2) { Some(directions(rng, layers, full)) } else { None };
     let weight = |rng: &mut Rng| match rng.below(6) {
         0 | 1 => 0,
         2 => 1,
@@ -248,12 +291,14 @@ pub fn job(rng: &mut Rng, kind: Kind) -> Job {
     let least = if kind == Kind::Plenty { tracks / 2 } else { 0 };
     let mut capacity = Vec::new();
     for _ in 0..layers {
-        let closed = kind != Kind::Plenty && rng.chance(1, 8); // a layer without tracks
-        let mut draw = || if closed || rng.chance(zeros, 10) { 0 } else { rng.range(least, tracks) as u64 };
+        let empty = kind != Kind::Plenty && rng.chance(1, 8); // a layer without tracks
+        let mut draw = || if empty || rng.chance(zeros, 10) { 0 } else { rng.range(least, tracks) as u64 };
         capacity.push((0..grid.edges()).map(|_| draw()).collect());
     }
 
-    let mut job = Job { grid, layers, alpha, beta, gamma, capacity, nets: Vec::new() };
+    let mut job = Job { grid, layers, dirs, alpha, beta, gamma, capacity, nets: Vec::new() };
+    close(&mut job);
+    let choices = (0..grid.edges()).map(|edge| job.layers_of(edge).len()).max().unwrap_or(0).max(2); // for one edge
     let nets = match kind {
         Kind::Tiny => rng.range(0, 6),
         Kind::Congested => rng.range(1, 300),
@@ -264,7 +309,6 @@ pub fn job(rng: &mut Rng, kind: Kind) -> Job {
         Kind::Short => rng.pick(&[500, 1000, 3000, 4095, 4096]),
         Kind::Full | Kind::Largest => 4096,
     };
-    let full = [Kind::Full, Kind::Largest].contains(&kind);
     let mut left = if full { TEXT_LIMIT - write(&job).len() - 3 } else { TEXT_LIMIT };
     let short = kind == Kind::Full && rng.chance(1, 2); // many short nets fill the text, else fewer long ones
     for _ in 0..nets {
@@ -276,7 +320,7 @@ pub fn job(rng: &mut Rng, kind: Kind) -> Job {
         let most = match kind {
             Kind::Tiny => {
                 // the layerings of the job stay few
-                let left = (15.0 / (layers as f64).log2()) as usize - job.entries();
+                let left = (15.0 / (choices as f64).log2()) as usize - job.entries();
                 let most = left.min(6);
                 if crosses || rng.chance(1, 3) {
                     most
@@ -301,7 +345,7 @@ pub fn job(rng: &mut Rng, kind: Kind) -> Job {
             Kind::Full if !short && grid.tiles() < room => rng.pick(&[Growth::Any, Growth::Comb, Growth::Fishbone]),
             _ => rng.pick(&[Growth::Snake, Growth::Bush, Growth::Any, Growth::Comb]),
         };
-        let net = net(rng, grid, layers, most, growth);
+        let net = net(rng, &job, most, growth);
         let mut lines = Vec::new();
         write_net(&mut lines, grid, job.nets.len() + 1, &net);
         left -= lines.len();
@@ -316,10 +360,14 @@ pub fn job(rng: &mut Rng, kind: Kind) -> Job {
 /// Lengthens the text to exactly the limit, where the track counts can: each of one digit takes up to two more.
 fn fill(job: &mut Job) {
     let mut missing = TEXT_LIMIT - write(job).len();
-    for tracks in job.capacity.iter_mut().flatten().filter(|tracks| **tracks <= 9) {
-        let more = missing.min(2);
-        *tracks += [0, 10, 100][more];
-        missing -= more;
+    for layer in 1..=job.layers {
+        for edge in 0..job.grid.edges() {
+            if job.may_use(edge, layer as u8) && job.capacity[layer - 1][edge] <= 9 {
+                let more = missing.min(2);
+                job.capacity[layer - 1][edge] += [0, 10, 100][more];
+                missing -= more;
+            }
+        }
     }
 }
 
@@ -338,11 +386,23 @@ fn write_net(text: &mut Vec<u8>, grid: Grid, number: usize, net: &Net) {
     write_list(text, "edges", &net.edges.iter().map(edge).collect::<Vec<_>>(), ";");
 }
 
+/// The letters of a `dirs` line.
+fn letters(dirs: &[Direction]) -> Vec<String> {
+    let letter = |direction: &Direction| match direction {
+        Direction::East => "h".to_string(),
+        Direction::North => "v".to_string(),
+    };
+    dirs.iter().map(letter).collect()
+}
+
 /// The text of a job.
 pub fn write(job: &Job) -> Vec<u8> {
     let mut text = Vec::new();
     let Job { grid, layers, alpha, beta, gamma, .. } = job;
     text.extend(format!("width={}\nheight={}\nlayers={layers}\n", grid.width, grid.height).bytes());
+    if let Some(dirs) = &job.dirs {
+        write_list(&mut text, "dirs", &letters(dirs), ",");
+    }
     text.extend(format!("alpha={alpha}\nbeta={beta}\ngamma={gamma}\n").bytes());
     for tracks in &job.capacity {
         let list: Vec<String> = tracks.iter().map(u64::to_string).collect();
@@ -391,13 +451,19 @@ pub enum Damage {
     Ring,
     /// A pin or an edge off the net.
     Off,
+    /// The `dirs` line of another form, twice, left out, or in another place.
+    Dirs,
+    /// A track on a layer that runs the other way.
+    Closed,
+    /// All layers run one way, and some edge the other.
+    NoLayer,
     /// More bytes than are read, or lines up to just as many.
     Long,
     /// Only random bytes.
     Random,
 }
 
-pub const DAMAGES: [(&str, Damage); 18] = [
+pub const DAMAGES: [(&str, Damage); 21] = [
     ("none", Damage::None),
     ("cut", Damage::Cut),
     ("flip", Damage::Flip),
@@ -414,6 +480,9 @@ pub const DAMAGES: [(&str, Damage); 18] = [
     ("edge-twice", Damage::EdgeTwice),
     ("ring", Damage::Ring),
     ("off", Damage::Off),
+    ("dirs", Damage::Dirs),
+    ("closed", Damage::Closed),
+    ("no-layer", Damage::NoLayer),
     ("long", Damage::Long),
     ("random", Damage::Random),
 ];
@@ -437,6 +506,7 @@ fn damaged(rng: &mut Rng, job: &Job, damage: Damage) -> (Vec<u8>, Known) {
     let at = rng.below(text.len());
     let last = job.last_line();
     let grid = job.grid;
+    let dirs_line = line == 3 && job.dirs.is_some();
 
     match damage {
         Damage::None => return (text, Known::Job),
@@ -448,13 +518,13 @@ fn damaged(rng: &mut Rng, job: &Job, damage: Damage) -> (Vec<u8>, Known) {
         Damage::Flip => {
             text[at] = match rng.below(3) {
                 0 => text[at] ^ (1 << rng.below(8)),
-                1 => rng.pick(b"0123456789,;=en\n"),
+                1 => rng.pick(b"0123456789,;=enhv\n"),
                 _ => rng.word() as u8,
             };
             return (text, Known::Open);
         }
         Damage::Insert => {
-            let byte = if rng.chance(1, 2) { rng.pick(b"0123456789,;=en\n") } else { rng.word() as u8 };
+            let byte = if rng.chance(1, 2) { rng.pick(b"0123456789,;=enhv\n") } else { rng.word() as u8 };
             text.insert(at, byte);
             return (text, Known::Open);
         }
@@ -475,7 +545,7 @@ fn damaged(rng: &mut Rng, job: &Job, damage: Damage) -> (Vec<u8>, Known) {
         }
         Damage::Random => {
             let some = rng.chance(1, 2);
-            let draw = |_| if some { rng.pick(b"0123456789,;=enwidthlayrspg\n") } else { rng.word() as u8 };
+            let draw = |_| if some { rng.pick(b"0123456789,;=enwidthlayrspgv\n") } else { rng.word() as u8 };
             return ((0..at % 3000).map(draw).collect(), Known::Open);
         }
         Damage::Double => {
@@ -485,16 +555,19 @@ fn damaged(rng: &mut Rng, job: &Job, damage: Damage) -> (Vec<u8>, Known) {
         }
         Damage::Drop => {
             lines.remove(line);
-            return (lines.concat(), Known::Refused(2, line as u32 + 1));
+            let known = if dirs_line { Known::Open } else { Known::Refused(2, line as u32 + 1) };
+            return (lines.concat(), known);
         }
         Damage::Swap => {
             if line + 1 < lines.len() {
                 lines.swap(line, line + 1);
-                return (lines.concat(), Known::Refused(2, line as u32 + 1));
+                // `alpha` may stand where `dirs` stood, but not `dirs` behind it
+                let wrong = if dirs_line { 5 } else { line as u32 + 1 };
+                return (lines.concat(), Known::Refused(2, wrong));
             }
         }
         Damage::Zero => {
-            // in an empty list it is an entry too many or of the wrong form
+            // in an empty list it is an entry too many or of the wrong form, on the `dirs` line no letter
             let value = lines[line].iter().position(|byte| *byte == b'=').unwrap() + 1;
             lines[line].insert(value, b'0');
             return (lines.concat(), Known::Refused(2, line as u32 + 1));
@@ -514,6 +587,28 @@ fn damaged(rng: &mut Rng, job: &Job, damage: Damage) -> (Vec<u8>, Known) {
             if let Some((line, value)) = beyond {
                 lines[line as usize - 1] = value.into_bytes();
                 return (lines.concat(), Known::Refused(3, line));
+            }
+        }
+        Damage::Dirs => return damaged_dirs(rng, job, lines),
+        Damage::Closed => {
+            let closed = closed(job);
+            if !closed.is_empty() {
+                let (layer, edge) = rng.pick(&closed);
+                let mut job = job.clone();
+                job.capacity[layer - 1][edge] = rng.pick(&[1, 2, 9, 255]);
+                return (write(&job), Known::Refused(12, job.capacity_line(layer, grid.direction(edge))));
+            }
+        }
+        Damage::NoLayer => {
+            let edges: Vec<usize> = job.nets.iter().flat_map(|net| net.edges.iter().copied()).collect();
+            if job.dirs.is_some() && !edges.is_empty() {
+                let direction = grid.direction(rng.pick(&edges));
+                let mut job = job.clone();
+                job.dirs = Some(vec![other(direction); job.layers]);
+                close(&mut job);
+                let first = job.nets.iter().position(|net| net.edges.iter().any(|e| grid.direction(*e) == direction));
+                let edges_line = job.nets_line() + 3 * (first.unwrap() as u32 + 1);
+                return (write(&job), Known::Refused(13, edges_line));
             }
         }
         _ => {
@@ -578,6 +673,50 @@ fn damaged(rng: &mut Rng, job: &Job, damage: Damage) -> (Vec<u8>, Known) {
     (text, Known::Job)
 }
 
+/// The lines of the job with another `dirs` line, or with one in the wrong place; and what is known of the text.
+fn damaged_dirs(rng: &mut Rng, job: &Job, mut lines: Vec<Vec<u8>>) -> (Vec<u8>, Known) {
+    let Some(dirs) = &job.dirs else {
+        let line = rng.below(lines.len() + 1);
+        let letters = letters(&directions(rng, job.layers, false)).join(",");
+        lines.insert(line, format!("dirs={letters}\n").into_bytes());
+        // right after `layers` it is a line of the job
+        let known = if line == 3 { Known::Open } else { Known::Refused(2, line as u32 + 1) };
+        return (lines.concat(), known);
+    };
+    let mut list = letters(dirs);
+    let text = list.join(",");
+    let place = rng.below(list.len());
+    let mut with = |entry: &str| {
+        list[place] = entry.to_string();
+        format!("dirs={}\n", list.join(","))
+    };
+    let changed = match rng.below(16) {
+        0 => String::new(),
+        1 => format!("dirs={text}\ndirs={text}\n"),
+        2 => format!("dirs={text},{}\n", rng.pick(&["h", "v"])),
+        3 => format!("dirs={}\n", &text[2..]),
+        4 => with(rng.pick(&["e", "n", "d", "0", "1", "hh", "hv", "", " h", "v "])),
+        5 => with(rng.pick(&["H", "V"])),
+        6 => format!("dirs={}\n", text.to_uppercase()),
+        7 => format!("dirs={}\n", text.replace(',', ";")),
+        8 => format!("dirs={}\n", text.replace(',', "")),
+        9 => format!("dirs{text}\n"),
+        10 => format!("dirs {text}\n"),
+        11 => format!("{}={text}\n", rng.pick(&["Dirs", "DIRS", "dir", "dirss", " dirs"])),
+        12 => "dirs=\n".to_string(),
+        13 => format!("dirs={text},\n"),
+        14 => format!("dirs=,{text}\n"),
+        _ => format!("dirs={text}\r\n"),
+    };
+    let known = match changed.lines().count() {
+        0 => Known::Open,
+        1 => Known::Refused(2, 4),
+        _ => Known::Refused(2, 5),
+    };
+    lines[3] = changed.into_bytes();
+    (lines.concat(), known)
+}
+
 /// A line of the job with one number just beyond its limit: the line's number and the line.
 fn beyond_limit(rng: &mut Rng, job: &Job) -> Option<(u32, String)> {
     let Grid { width, height } = job.grid;
@@ -588,20 +727,21 @@ fn beyond_limit(rng: &mut Rng, job: &Job) -> Option<(u32, String)> {
         2 => Some((3, format!("layers={}\n", rng.pick(&[0, 1, 9])))),
         3 => {
             let place = rng.below(3);
-            Some((place as u32 + 4, format!("{}=256\n", ["alpha", "beta", "gamma"][place])))
+            Some((job.alpha_line() + place as u32, format!("{}=256\n", ["alpha", "beta", "gamma"][place])))
         }
         4 => Some((job.nets_line(), "nets=4097\n".to_string())),
         5 | 6 => {
-            let layer = rng.below(layers);
-            let (east, north) = job.capacity[layer].split_at(job.grid.east_edges());
-            let (key, list, line) = rng.pick(&[("east", east, 7), ("north", north, 8)]);
+            let layer = rng.range(1, layers);
+            let (east, north) = job.capacity[layer - 1].split_at(job.grid.east_edges());
+            let (key, list, direction) =
+                rng.pick(&[("east", east, Direction::East), ("north", north, Direction::North)]);
             if list.is_empty() {
                 return None;
             }
             let mut list: Vec<String> = list.iter().map(u64::to_string).collect();
             let place = rng.below(list.len());
             list[place] = "256".to_string();
-            Some((line + 2 * layer as u32, format!("{key}={}\n", list.join(","))))
+            Some((job.capacity_line(layer, direction), format!("{key}={}\n", list.join(","))))
         }
         _ if job.nets.is_empty() => None,
         choice => {
@@ -683,7 +823,8 @@ pub fn draw(seed: u64, kind: Option<Kind>, damage: Option<Damage>) -> Drawn {
 
 impl Drawn {
     /// The refusal that the text must get with these lent lengths, or none where it must be accepted; nothing is said
-    /// where nothing is known. 9 is found after line 3, 10 after the `nets` line, 11 after the whole text.
+    /// where nothing is known. 9 is found after line 3, or after line 4 where that begins `dirs=`, 10 after the `nets`
+    /// line, 11 after the whole text.
     pub fn outcome(&self, lent: Lengths) -> Option<Option<Refusal>> {
         let (number, line) = match self.known {
             Known::Open => return None,
@@ -694,12 +835,14 @@ impl Drawn {
             return Some(Some(Refusal { number: 1, line: 0 }));
         }
         let need = self.job.need();
+        let fourth = self.text.split(|byte| *byte == 10).nth(3);
+        let work_line = if fourth.is_some_and(|line| line.starts_with(b"dirs=")) { 4 } else { 3 };
         let nets_line = self.job.nets_line();
         let nets = self.text.split(|byte| *byte == 10).nth(nets_line as usize - 1);
         let nets = nets.and_then(|line| std::str::from_utf8(line).ok()?.strip_prefix("nets=")?.parse().ok());
         let refused = |number: u32, line: u32| Some(Some(Refusal { number, line }));
-        if line > 3 && lent.work < need.work {
-            return refused(9, 3);
+        if line > work_line && lent.work < need.work {
+            return refused(9, work_line);
         }
         if line > nets_line && lent.order < nets.unwrap_or(0) {
             return refused(10, nets_line);

@@ -7,9 +7,9 @@ use std::ops::RangeInclusive;
 pub const TEXT_LIMIT: usize = 1_048_576;
 
 /// The highest number in the table of refusals.
-pub const LAST_REFUSAL: usize = 11;
+pub const LAST_REFUSAL: usize = 13;
 
-/// A refusal: its number in the table of document 01, and the line.
+/// A refusal: its number in the table of documents 01 and 02, and the line.
 #[derive(Clone, Copy, PartialEq, Eq, Debug)]
 pub struct Refusal {
     pub number: u32,
@@ -30,6 +30,13 @@ pub const EAST: usize = 0;
 pub const NORTH: usize = 1;
 pub const WEST: usize = 2;
 pub const SOUTH: usize = 3;
+
+/// The direction of an edge, and of a layer in a job with a `dirs` line, where it is written `h` or `v`.
+#[derive(Clone, Copy, PartialEq, Eq, Debug)]
+pub enum Direction {
+    East,
+    North,
+}
 
 /// The grid: tile (x, y) has the number y × width + x.
 /// Edges are numbered in the order of the capacity lines: first all east ones, then all north ones.
@@ -80,6 +87,14 @@ impl Grid {
         }
     }
 
+    pub fn direction(self, edge: usize) -> Direction {
+        if edge < self.east_edges() {
+            Direction::East
+        } else {
+            Direction::North
+        }
+    }
+
     /// The two tiles that an edge joins.
     pub fn ends(self, edge: usize) -> [usize; 2] {
         let (tile, east) = self.named(edge);
@@ -109,11 +124,13 @@ impl Net {
     }
 }
 
-/// A job. `capacity[l - 1][e]` is the track count of edge e on layer l. Net 1 is `nets[0]`.
+/// A job. `dirs[l - 1]` is the direction of layer l, in a job with that line. `capacity[l - 1][e]` is the track count of
+/// edge e on layer l. Net 1 is `nets[0]`.
 #[derive(Clone, PartialEq, Eq, Debug)]
 pub struct Job {
     pub grid: Grid,
     pub layers: usize,
+    pub dirs: Option<Vec<Direction>>,
     pub alpha: u64,
     pub beta: u64,
     pub gamma: u64,
@@ -127,9 +144,33 @@ impl Job {
         self.nets.iter().map(|net| net.edges.len()).sum()
     }
 
-    /// The number of the `nets` line, and of the last line.
+    /// Whether some layer runs this way: without a `dirs` line, all run both ways.
+    pub fn has_layer(&self, direction: Direction) -> bool {
+        self.dirs.as_ref().is_none_or(|dirs| dirs.contains(&direction))
+    }
+
+    /// Whether an edge may use a layer.
+    pub fn may_use(&self, edge: usize, layer: u8) -> bool {
+        self.dirs.as_ref().is_none_or(|dirs| dirs[usize::from(layer) - 1] == self.grid.direction(edge))
+    }
+
+    /// The layers, in rising order, that an edge may use.
+    pub fn layers_of(&self, edge: usize) -> Vec<u8> {
+        (1..=self.layers as u8).filter(|layer| self.may_use(edge, *layer)).collect()
+    }
+
+    /// The number of the `alpha` line, of the two capacity lines of a layer, of the `nets` line, and of the last line.
+    pub fn alpha_line(&self) -> u32 {
+        4 + u32::from(self.dirs.is_some())
+    }
+
+    pub fn capacity_line(&self, layer: usize, direction: Direction) -> u32 {
+        let east = self.alpha_line() + 3 + 2 * (layer as u32 - 1);
+        east + u32::from(direction == Direction::North)
+    }
+
     pub fn nets_line(&self) -> u32 {
-        nets_line(self.layers)
+        self.alpha_line() + 3 + 2 * self.layers as u32
     }
 
     pub fn last_line(&self) -> u32 {
@@ -145,10 +186,6 @@ impl Job {
             print: Some(print_need(self.nets.len(), self.entries())),
         }
     }
-}
-
-fn nets_line(layers: usize) -> u32 {
-    7 + 2 * layers as u32
 }
 
 /// 2 × K × E + 2 × E + 32 × T.
@@ -172,6 +209,7 @@ pub fn read(text: &[u8], lent: Lengths) -> Result<Job, Refusal> {
     let height = reader.number("height", 1..=64)?;
     let grid = Grid { width, height };
     let layers = reader.number("layers", 2..=8)?;
+    let dirs = reader.dirs(layers)?;
     if lent.work < work_need(grid, layers) {
         return Err(reader.refusal(9));
     }
@@ -179,9 +217,10 @@ pub fn read(text: &[u8], lent: Lengths) -> Result<Job, Refusal> {
     let beta = reader.number("beta", 0..=255)? as u64;
     let gamma = reader.number("gamma", 0..=255)? as u64;
     let mut capacity = Vec::new();
-    for _ in 0..layers {
-        let mut tracks = reader.capacities("east", grid.east_edges())?;
-        tracks.extend(reader.capacities("north", grid.north_edges())?);
+    for layer in 0..layers {
+        let closed = |direction: Direction| dirs.as_ref().is_some_and(|dirs| dirs[layer] != direction);
+        let mut tracks = reader.capacities("east", grid.east_edges(), closed(Direction::East))?;
+        tracks.extend(reader.capacities("north", grid.north_edges(), closed(Direction::North))?);
         capacity.push(tracks);
     }
     let count = reader.number("nets", 0..=4096)?;
@@ -195,14 +234,14 @@ pub fn read(text: &[u8], lent: Lengths) -> Result<Job, Refusal> {
             return Err(reader.refusal(4));
         }
         let pins = reader.pins(grid, layers)?;
-        let edges = reader.edges(grid, &pins)?;
+        let edges = reader.edges(grid, dirs.as_deref(), &pins)?;
         nets.push(Net { pins, edges });
     }
     if !reader.rest.is_empty() {
         reader.line += 1;
         return Err(reader.refusal(2));
     }
-    let job = Job { grid, layers, alpha, beta, gamma, capacity, nets };
+    let job = Job { grid, layers, dirs, alpha, beta, gamma, capacity, nets };
     let print_short = lent.print.is_some_and(|length| length < print_need(count, job.entries()));
     if lent.answer < job.entries() || print_short {
         return Err(reader.refusal(11));
@@ -218,6 +257,15 @@ fn number(bytes: &[u8]) -> Option<usize> {
         return None;
     }
     Some(bytes.iter().fold(0, |value, digit| 10 * value + usize::from(digit - b'0')))
+}
+
+/// A letter of the `dirs` line.
+fn letter(entry: &[u8]) -> Option<Direction> {
+    match entry {
+        b"h" => Some(Direction::East),
+        b"v" => Some(Direction::North),
+        _ => None,
+    }
 }
 
 /// The entries of a list; an empty value is an empty list.
@@ -286,13 +334,27 @@ impl<'a> Reader<'a> {
         Ok(number)
     }
 
-    /// An `east` or `north` line: form and length of the whole line first, then the range.
-    fn capacities(&mut self, key: &str, length: usize) -> Result<Vec<u64>, Refusal> {
+    /// The `dirs` line, which is there where the text goes on with its key: K letters.
+    fn dirs(&mut self, layers: usize) -> Result<Option<Vec<Direction>>, Refusal> {
+        if !self.rest.starts_with(b"dirs=") {
+            return Ok(None);
+        }
+        let value = self.value("dirs")?;
+        let list: Option<Vec<Direction>> = entries(value, b',').into_iter().map(letter).collect();
+        self.well_formed(list.filter(|list| list.len() == layers)).map(Some)
+    }
+
+    /// An `east` or `north` line: form and length of the whole line first, then the range, then 12. It is `closed` if
+    /// its layer runs the other way.
+    fn capacities(&mut self, key: &str, length: usize, closed: bool) -> Result<Vec<u64>, Refusal> {
         let value = self.value(key)?;
         let list: Option<Vec<usize>> = entries(value, b',').into_iter().map(number).collect();
         let list = self.well_formed(list.filter(|list| list.len() == length))?;
         if list.iter().any(|tracks| *tracks > 255) {
             return Err(self.refusal(3));
+        }
+        if closed && list.iter().any(|tracks| *tracks > 0) {
+            return Err(self.refusal(12));
         }
         Ok(list.into_iter().map(|tracks| tracks as u64).collect())
     }
@@ -314,8 +376,8 @@ impl<'a> Reader<'a> {
         Ok(pins)
     }
 
-    /// An `edges` line: 2, then 3, 6, 7 and 8.
-    fn edges(&mut self, grid: Grid, pins: &[Pin]) -> Result<Vec<usize>, Refusal> {
+    /// An `edges` line: 2, then 3, 6, 7, 8 and 13.
+    fn edges(&mut self, grid: Grid, dirs: Option<&[Direction]>, pins: &[Pin]) -> Result<Vec<usize>, Refusal> {
         let value = self.value("edges")?;
         let list: Option<Vec<[usize; 3]>> = entries(value, b';').into_iter().map(edge_entry).collect();
         let mut edges = Vec::new();
@@ -336,6 +398,10 @@ impl<'a> Reader<'a> {
         let edges_reached = neighbours.keys().all(|tile| reached.contains(tile));
         if !pins_reached || !edges_reached {
             return Err(self.refusal(8));
+        }
+        let no_layer = |edge: &usize| dirs.is_some_and(|dirs| !dirs.contains(&grid.direction(*edge)));
+        if edges.iter().any(no_layer) {
+            return Err(self.refusal(13));
         }
         Ok(edges)
     }

@@ -1,6 +1,6 @@
 //! The plan: overflow on the flat plan, scores and order, each net's walk, its layers, and the print.
 
-use crate::job::{Grid, Job, Net};
+use crate::job::{Direction, Grid, Job, Net};
 use std::cmp::Reverse;
 use std::collections::{BTreeMap, BTreeSet, VecDeque};
 
@@ -12,14 +12,45 @@ pub struct Entry {
     pub score: u64,
 }
 
-/// The flat plan's numbers: for each edge d(e), c(e) and o(e); then TO and MO.
+/// The flat plan's numbers: for each edge d(e), c(e) and o(e).
 #[derive(Clone, PartialEq, Eq, Debug)]
 pub struct Flat {
     pub demand: Vec<u64>,
     pub capacity: Vec<u64>,
     pub overflow: Vec<u64>,
-    pub total: u64,
-    pub maximum: u64,
+    pub limits: Limits,
+}
+
+/// The limits on the overflow of one layer of an edge, for edges to the east and to the north.
+#[derive(Clone, Copy, PartialEq, Eq, Debug)]
+pub struct Limits {
+    pub east: u64,
+    pub north: u64,
+}
+
+impl Limits {
+    /// Without a `dirs` line, MO / K rounded up for both. With it, the same for each direction by itself: the largest of
+    /// its edges' overflows by the number of its layers, and 0 where it has no edge or no layer.
+    fn of(job: &Job, overflow: &[u64]) -> Limits {
+        let limit = |overflow: &[u64], layers: usize| match layers {
+            0 => 0,
+            _ => overflow.iter().copied().max().unwrap_or(0).div_ceil(layers as u64),
+        };
+        let Some(dirs) = &job.dirs else {
+            let both = limit(overflow, job.layers);
+            return Limits { east: both, north: both };
+        };
+        let layers = |direction: Direction| dirs.iter().filter(|other| **other == direction).count();
+        let (east, north) = overflow.split_at(job.grid.east_edges());
+        Limits { east: limit(east, layers(Direction::East)), north: limit(north, layers(Direction::North)) }
+    }
+
+    fn on(self, direction: Direction) -> u64 {
+        match direction {
+            Direction::East => self.east,
+            Direction::North => self.north,
+        }
+    }
 }
 
 pub fn flat(job: &Job) -> Flat {
@@ -30,9 +61,8 @@ pub fn flat(job: &Job) -> Flat {
     }
     let capacity: Vec<u64> = (0..edges).map(|e| job.capacity.iter().map(|layer| layer[e]).sum()).collect();
     let overflow: Vec<u64> = (0..edges).map(|e| demand[e].saturating_sub(capacity[e])).collect();
-    let total = overflow.iter().sum();
-    let maximum = overflow.iter().copied().max().unwrap_or(0);
-    Flat { demand, capacity, overflow, total, maximum }
+    let limits = Limits::of(job, &overflow);
+    Flat { demand, capacity, overflow, limits }
 }
 
 /// floor(1000 × alpha / L) + 1000 × beta × P + floor(1000 × gamma × D / C); a zero divisor counts as 1. P is the number of
@@ -88,16 +118,18 @@ pub fn walk(grid: Grid, net: &Net) -> Vec<Step> {
 /// The nets that stand on each layer of each edge: `load[l - 1][e]`.
 pub type Load = Vec<Vec<u64>>;
 
-/// The layers, in rising order, that are legal for an edge: with this net put there, that layer's overflow is at most
-/// MO / K rounded up, and the sum of the overflows of all layers of the edge is at most o(e).
+/// The layers, in rising order, that are legal for an edge: of those that it may use, the ones where, with this net put
+/// there, that layer's overflow is at most the limit, and the sum of the overflows of all layers of the edge is at most
+/// o(e).
 pub fn legal_layers(job: &Job, flat: &Flat, load: &Load, edge: usize) -> Vec<u8> {
-    let limit = flat.maximum.div_ceil(job.layers as u64);
-    let legal = |layer: &usize| {
-        let after = |l: usize| load[l - 1][edge] + u64::from(l == *layer);
+    let limit = flat.limits.on(job.grid.direction(edge));
+    let legal = |layer: &u8| {
+        let layer = usize::from(*layer);
+        let after = |l: usize| load[l - 1][edge] + u64::from(l == layer);
         let overflow = |l: usize| after(l).saturating_sub(job.capacity[l - 1][edge]);
-        overflow(*layer) <= limit && (1..=job.layers).map(overflow).sum::<u64>() <= flat.overflow[edge]
+        overflow(layer) <= limit && (1..=job.layers).map(overflow).sum::<u64>() <= flat.overflow[edge]
     };
-    (1..=job.layers).filter(legal).map(|layer| layer as u8).collect()
+    job.layers_of(edge).into_iter().filter(legal).collect()
 }
 
 /// The vias of a net from its layers (in the order of its `edges` line): at each of its tiles, the highest minus the

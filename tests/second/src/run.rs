@@ -8,9 +8,16 @@ use crate::plan::{print, walk, Plan};
 use crate::{brute, check};
 use std::fmt;
 
-/// A job is tiny if it has at most so many layerings and nets: then all its layerings are looked at one by one.
+/// A job is tiny if it has at most so many layerings, nets and entries on `edges` lines: then all its layerings are looked
+/// at one by one.
 pub const BRUTE_MOST: u64 = 40_000;
 pub const BRUTE_MOST_NETS: usize = 20;
+pub const BRUTE_MOST_ENTRIES: usize = 40;
+
+fn tiny(job: &Job) -> bool {
+    let few = job.nets.len() <= BRUTE_MOST_NETS && job.entries() <= BRUTE_MOST_ENTRIES;
+    few && brute::layerings(job, BRUTE_MOST).is_some()
+}
 
 /// All checks of the plan of an accepted job: `check`, the length of its print, and on a tiny job `brute`. Returns how
 /// many layerings were looked at, where the job is tiny.
@@ -20,7 +27,7 @@ pub fn checked(job: &Job, plan: &Plan) -> Result<Option<u64>, String> {
     if job.need().print.is_some_and(|need| printed > need) {
         return Err(format!("the print has {printed} bytes, more than the print buffer that is asked for"));
     }
-    if brute::layerings(job, BRUTE_MOST).is_none() || job.nets.len() > BRUTE_MOST_NETS {
+    if !tiny(job) {
         return Ok(None);
     }
     let layerings = brute::check(job, &plan.order, &plan.layers.concat(), &Returned::of(plan, printed))?;
@@ -56,6 +63,8 @@ pub struct Summary {
     pub most_edges: usize,
     pub most_vias: u64,
     pub with_overflow: u64,
+    /// Accepted jobs with a `dirs` line.
+    pub with_directions: u64,
     pub brute: u64,
     pub layerings: u64,
 }
@@ -63,7 +72,8 @@ pub struct Summary {
 impl fmt::Display for Summary {
     fn fmt(&self, out: &mut fmt::Formatter) -> fmt::Result {
         writeln!(out, "jobs={} damaged={} calls={}", self.jobs, self.damaged, self.calls)?;
-        writeln!(out, "accepted={} of_these_with_overflow={}", self.accepted, self.with_overflow)?;
+        write!(out, "accepted={} of_these_with_overflow={}", self.accepted, self.with_overflow)?;
+        writeln!(out, " with_directions={}", self.with_directions)?;
         writeln!(out, "nets={} of_these_with_stacked_pins={}", self.nets, self.stacked)?;
         let refused: Vec<String> = (1..=LAST_REFUSAL).map(|n| format!("{n}:{}", self.refused[n])).collect();
         writeln!(out, "refused {}", refused.join(" "))?;
@@ -116,6 +126,7 @@ impl Summary {
             }
             self.accepted += 1;
             self.with_overflow += u64::from(plan.total_overflow > 0);
+            self.with_directions += u64::from(job.dirs.is_some());
             self.full += u64::from(text.len() == crate::job::TEXT_LIMIT);
             self.largest_text = self.largest_text.max(text.len());
             self.most_nets = self.most_nets.max(job.nets.len());

@@ -1,4 +1,4 @@
-//! The worked cases of document 01, and what its table and its terms say of single lines.
+//! The worked cases of document 01, and what its table and its terms, and the requests of document 02, say of single lines.
 
 use second::ask::answer_all;
 use second::brute;
@@ -21,6 +21,11 @@ fn text(size: [usize; 3], weights: [usize; 3], capacities: &[(&str, &str)], nets
         text += &format!("net={}\npins={pins}\nedges={edges}\n", place + 1);
     }
     text
+}
+
+/// The text with a `dirs` line.
+fn directed(letters: &str, text: String) -> String {
+    text.replacen("\nalpha=", &format!("\ndirs={letters}\nalpha="), 1)
 }
 
 /// The plan of an accepted job, after all checks.
@@ -116,6 +121,148 @@ fn stacked_pins_count_once() {
     assert_eq!(order, [(2, 2000), (3, 2000), (1, 1000)]);
     let c4 = planned(&text([1, 1, 4], [1, 1, 0], &[("", ""); 4], &[("0,0,1;0,0,4", "")]));
     assert_eq!((c4.order[0].score, c4.total_vias), (2000, 3));
+}
+
+/// S-2: two tiles in a row with no tracks on two layers, and so many nets, each with a pin on layer 2 in both tiles.
+fn two_tiles(letters: &str, nets: usize) -> String {
+    directed(letters, text([2, 1, 2], [1, 1, 1], &[("0", ""); 2], &vec![("0,0,2;1,0,2", "0,0,e"); nets]))
+}
+
+#[test]
+fn edges_use_the_layers_of_their_direction() {
+    let one = planned(&two_tiles("h,v", 1));
+    assert_eq!((one.layers, one.vias, one.total_overflow, one.max_overflow), (vec![vec![1]], vec![2], 1, 1));
+    let two = planned(&two_tiles("h,v", 2));
+    assert_eq!((two.layers, two.vias, two.total_overflow, two.max_overflow), (vec![vec![1]; 2], vec![2, 2], 2, 2));
+    // no track closes no layer: only the letter does
+    assert_eq!(planned(&two_tiles("v,h", 2)).layers, [[2], [2]]);
+    assert_eq!(planned(&two_tiles("h,h", 2)).layers, [[2], [1]]);
+
+    // two layers for edges to the east, one for those to the north, and a track less than nets
+    let capacities = [("0,0", "0,0"), ("1,1", "0,0"), ("0,0", "1,1")];
+    let nets = [("0,0,1;1,1,1", "0,0,e;1,0,n"); 2];
+    let plan = planned(&directed("h,h,v", text([2, 2, 3], [1, 1, 1], &capacities, &nets)));
+    assert_eq!(plan.layers, [[1, 3], [2, 3]]);
+    assert_eq!((plan.vias, plan.total_overflow, plan.max_overflow), (vec![4, 4], 2, 1));
+}
+
+#[test]
+fn each_direction_has_its_limit() {
+    // eight nets to the north, two to the east: limits 4 and 1, where without directions it is 2 for all
+    let mut nets = vec![("0,0,1;1,0,1", "0,0,e"); 2];
+    nets.extend([("0,0,1", "0,0,n"); 8]);
+    let both = text([2, 2, 4], [0, 0, 0], &[("0,0", "0,0"); 4], &nets);
+    let plan = planned(&directed("h,h,v,v", both.clone()));
+    let layers: Vec<u8> = plan.layers.concat();
+    assert_eq!(layers, [1, 2, 3, 3, 3, 3, 4, 4, 4, 4]);
+    assert_eq!((plan.total_overflow, plan.max_overflow), (10, 4));
+    let plan = planned(&both);
+    assert_eq!(plan.layers.concat(), [1, 1, 1, 1, 2, 2, 3, 3, 4, 4]);
+    assert_eq!((plan.total_overflow, plan.max_overflow), (10, 2));
+
+    // three layers to the east and one to the north, the larger maximum to the east
+    let mut nets = vec![("0,0,1", "0,0,e"); 7];
+    nets.push(("0,0,1", "0,0,n"));
+    let plan = planned(&directed("h,v,h,h", text([2, 2, 4], [0, 0, 0], &[("0,0", "0,0"); 4], &nets)));
+    assert_eq!((plan.layers.concat(), plan.max_overflow), (vec![1, 1, 1, 3, 3, 3, 4, 2], 3));
+}
+
+#[test]
+fn all_layers_may_run_one_way() {
+    // C7, and the same in a column: only edges that have a layer count
+    let row = |letters: &str| directed(letters, text([2, 1, 2], [1, 1, 1], &[("0", ""); 2], &[("0,0,1", "0,0,e"); 3]));
+    let column =
+        |letters: &str| directed(letters, text([1, 2, 2], [1, 1, 1], &[("", "0"); 2], &[("0,0,1", "0,0,n"); 3]));
+    for job in [row("h,h"), column("v,v")] {
+        let plan = planned(&job);
+        assert_eq!((plan.layers.concat(), plan.total_overflow, plan.max_overflow), (vec![1, 1, 2], 3, 2));
+    }
+    assert_eq!([refused(&row("v,v")), refused(&column("h,h"))], [(13, 15); 2]);
+
+    // 13 is of edges in use: a direction without a layer alone is no fault
+    let square = |edges: &str| directed("h,h", text([2, 2, 2], [1, 1, 1], &[("1,1", "0,0"); 2], &[("0,0,1", edges)]));
+    assert_eq!([square("0,0,e"), square(""), square("0,0,n")].map(|job| refused(&job)), [(0, 0), (0, 0), (13, 15)]);
+    let plan = planned(&directed("v,v", text([1, 1, 2], [1, 1, 1], &[("", ""); 2], &[("0,0,1;0,0,2", "")])));
+    assert_eq!((plan.total_vias, plan.max_overflow), (1, 0));
+}
+
+#[test]
+fn the_dirs_line() {
+    let with = |line: &str| refused(&C1.replace("alpha=1", &format!("{line}\nalpha=1")));
+    assert_eq!(with("dirs=h,h"), (0, 0));
+    for line in [
+        "dirs=",
+        "dirs=h",
+        "dirs=h,h,h",
+        "dirs=h,h,",
+        "dirs=,h,h",
+        "dirs=h,,h",
+        "dirs=hh",
+        "dirs=h;h",
+        "dirs=H,H",
+        "dirs=h,H",
+        "dirs=h,e",
+        "dirs=1,1",
+        "dirs= h,h",
+        "dirs=h,h ",
+        "dirs=h, h",
+        "dirs=h,h\r",
+        "dirsh,h",
+        "dirs",
+        "dir=h,h",
+        "Dirs=h,h",
+        " dirs=h,h",
+        "",
+    ] {
+        assert_eq!(with(line), (2, 4), "{line}");
+    }
+    // once only, and only right after `layers`; the lines after it count one more
+    assert_eq!(with("dirs=h,h\ndirs=h,h"), (2, 5));
+    assert_eq!(refused(&C1.replace("beta=1", "dirs=h,h\nbeta=1")), (2, 5));
+    assert_eq!(refused(&C1.replace("layers=2", "dirs=h,h\nlayers=2")), (2, 3));
+    let later = |old: &str, new: &str| refused(&directed("h,h", C1.to_string()).replacen(old, new, 1));
+    assert_eq!(later("alpha=1", "alpha=256"), (3, 5));
+    assert_eq!(later("north=", "north=1"), (2, 9));
+    assert_eq!(later("nets=2", "nets=4097"), (3, 12));
+    assert_eq!(later("net=2", "net=3"), (4, 16));
+    assert_eq!(refused(&directed("h,h", format!("{C1}\n"))), (2, 19));
+}
+
+#[test]
+fn tracks_across_a_layer() {
+    // east and north of layer 1, then of layer 2, from line 8 on
+    let with = |capacities: [(&str, &str); 2]| refused(&directed("h,v", text([3, 2, 2], [1; 3], &capacities, &[])));
+    let fine = [("1,1,1,1", "0,0,0"), ("0,0,0,0", "1,1,1")];
+    assert_eq!(with(fine), (0, 0));
+    assert_eq!(with([fine[0], ("0,0,0,1", "1,1,1")]), (12, 10));
+    assert_eq!(with([("1,1,1,1", "1,0,0"), fine[1]]), (12, 9));
+    assert_eq!(with([("1,1,1,1", "0,255,0"), ("1,1,1,1", "1,1,1")]), (12, 9));
+    // form, length and range come first, also behind the tracks
+    assert_eq!(with([("1,1,1,1", "1,0,256"), fine[1]]), (3, 9));
+    assert_eq!(with([("1,1,1,1", "1,0"), fine[1]]), (2, 9));
+    assert_eq!(with([("1,1,1,1", "1,0,00"), fine[1]]), (2, 9));
+    assert_eq!(with([("256,1,1,1", "1,0,0"), fine[1]]), (3, 8));
+}
+
+#[test]
+fn edges_without_a_layer() {
+    let job = |edges: &str| {
+        let capacities = [("1,1,1,1,1,1", "0,0,0,0,0,0"); 2];
+        directed("h,h", text([3, 3, 2], [1; 3], &capacities, &[("0,0,1", "0,0,e"), ("0,0,1", edges)]))
+    };
+    assert_eq!(refused(&job("0,0,e;1,0,e")), (0, 0));
+    assert_eq!(refused(&job("0,0,e;1,0,n")), (13, 18));
+    // 2, 3, 6, 7 and 8 come first
+    assert_eq!(refused(&job("0,0,n;0,0,x")), (2, 18));
+    assert_eq!(refused(&job("0,0,n;2,0,e")), (3, 18));
+    assert_eq!(refused(&job("0,0,n;0,0,n")), (6, 18));
+    assert_eq!(refused(&job("0,0,n;0,1,e;1,0,n;0,0,e")), (7, 18));
+    assert_eq!(refused(&job("0,0,n;1,1,e")), (8, 18));
+    // and 11 after it, as a later line does
+    let short = Lengths { answer: 0, print: Some(0), ..AMPLE };
+    assert_eq!(refusal(&job("0,0,n"), short), (13, 18));
+    assert_eq!(refusal(&job("0,0,e"), short), (11, 18));
+    assert_eq!(refused(&format!("{}x", job("0,0,n"))), (13, 18));
 }
 
 #[test]
@@ -251,6 +398,31 @@ fn lent_lengths() {
 }
 
 #[test]
+fn lent_lengths_with_directions() {
+    // as many as without, and 9 comes right after line 4
+    let job = directed("h,h", C1.to_string());
+    let need = Lengths { work: 8 + 4 + 96, order: 2, answer: 3, print: Some(256 + 128 + 6) };
+    assert_eq!(read(job.as_bytes(), need).unwrap().need(), need);
+    assert_eq!(refusal(&job, need), (0, 0));
+    let short = Lengths { work: 107, ..need };
+    assert_eq!(refusal(&job, short), (9, 4));
+    assert_eq!(refusal(&job.replace("alpha=1", "alpha=256"), short), (9, 4));
+    assert_eq!(refusal(&job, Lengths { order: 1, ..need }), (10, 12));
+    assert_eq!(refusal(&job, Lengths { answer: 2, ..need }), (11, 18));
+
+    // a malformed line comes before it, if it begins `dirs=`; any other line comes after it
+    for line in ["dirs=", "dirs=h", "dirs=h,h,v", "dirs=H,H", "dirs=h;h", "dirs==h,h"] {
+        assert_eq!(refusal(&job.replace("dirs=h,h", line), short), (2, 4), "{line}");
+    }
+    for line in ["dirs", "dirsh,h", "dir=h,h", "DIRS=h,h", " dirs=h,h", ""] {
+        assert_eq!(refusal(&job.replace("dirs=h,h", line), short), (9, 3), "{line}");
+    }
+    let start = |end: &str| refusal(&format!("width=3\nheight=1\nlayers=2{end}"), short);
+    assert_eq!(["", "\n", "\ndirs", "\ndirs="].map(start), [(2, 3), (9, 3), (9, 3), (2, 4)]);
+    assert_eq!(["\ndirs=h,h", "\ndirs=h,h\n", "\ndirs=h,\n"].map(start), [(2, 4), (9, 4), (2, 4)]);
+}
+
+#[test]
 fn questions_and_answers() {
     let asked = |questions: &str| {
         let mut answers = Vec::new();
@@ -339,6 +511,33 @@ fn wrong_plans_are_noticed() {
         plan.vias = vec![0, 2];
     };
     assert_eq!(noticed(&other_net_first), (true, true));
+}
+
+#[test]
+fn wrong_plans_of_a_job_with_directions_are_noticed() {
+    // limits 1 to the east and 2 to the north
+    let nets = [("0,0,1", "0,0,e"), ("0,0,1", "0,0,e"), ("0,0,1", "0,0,n"), ("0,0,1", "0,0,n")];
+    let text = directed("h,h,v", text([2, 2, 3], [0; 3], &[("0,0", "0,0"); 3], &nets));
+    let job = read(text.as_bytes(), AMPLE).unwrap();
+    let right = plan(&job);
+    assert_eq!(right.layers.concat(), [1, 2, 3, 3]);
+    let noticed = |layers: [u8; 4]| {
+        let mut wrong = right.clone();
+        for (place, layer) in layers.into_iter().enumerate() {
+            wrong.layers[place] = vec![layer];
+            wrong.vias[place] = u64::from(layer - 1);
+        }
+        wrong.total_vias = wrong.vias.iter().sum();
+        let (vias, total, maximum) = (wrong.total_vias, wrong.total_overflow, wrong.max_overflow);
+        let returned = Returned { vias, total, maximum, ..Returned::default() };
+        let by_brute = brute::check(&job, &wrong.order, &layers, &returned).is_err();
+        (check::check(&job, &wrong).is_err(), by_brute)
+    };
+    assert_eq!(noticed([1, 2, 3, 3]), (false, false));
+    assert_eq!(noticed([1, 1, 3, 3]), (true, true)); // above the limit to the east, not above that to the north
+    assert_eq!(noticed([2, 1, 3, 3]), (true, true)); // later in walk order
+    assert_eq!(noticed([1, 3, 3, 3]), (true, true)); // a layer that runs the other way
+    assert_eq!(noticed([1, 2, 1, 3]), (true, true));
 }
 
 /// A planner that does one more thing after the call.

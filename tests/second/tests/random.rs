@@ -14,12 +14,12 @@ fn a_run() {
     }
     println!("{summary}");
     assert!(summary.refused.iter().all(|count| *count > 0), "every refusal occurs");
-    assert!(summary.brute > 100);
+    assert!(summary.brute > 100 && summary.with_directions > 50);
 }
 
 #[test]
 fn tiny_jobs_by_brute_force() {
-    let (mut with_ties, mut with_overflow, mut three_branches) = (0, 0, 0);
+    let (mut with_ties, mut with_overflow, mut three_branches, mut two_limits) = (0, 0, 0, 0);
     for seed in 0..400 {
         let drawn = draw(seed, Some(Kind::Tiny), Some(Damage::None));
         let lent = drawn.job.need();
@@ -30,10 +30,12 @@ fn tiny_jobs_by_brute_force() {
         with_overflow += usize::from(plan.total_overflow > 0);
         let walks = drawn.job.nets.iter().map(|net| second::plan::walk(drawn.job.grid, net));
         three_branches += usize::from(walks.flatten().any(|step| step.branches.len() == 3));
+        let limits = second::plan::flat(&drawn.job).limits;
+        two_limits += usize::from(limits.east != limits.north && limits.east.min(limits.north) > 0);
     }
     assert!(
-        with_ties > 20 && with_overflow > 100 && three_branches > 20,
-        "{with_ties} {with_overflow} {three_branches}"
+        with_ties > 20 && with_overflow > 100 && three_branches > 20 && two_limits > 10,
+        "{with_ties} {with_overflow} {three_branches} {two_limits}"
     );
 }
 

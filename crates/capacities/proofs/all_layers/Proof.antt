@@ -5,6 +5,7 @@ use Prim.Native.Nat.{_+_, _-_, _*_, _≤_}
 use native.Mathlib.Nat.{sub-zero}
 use lib.ListN.{length}
 use Rattle.model.specs.Read.{capacityLines}
+use Rattle.layout.specs.Dirs.{dirsOf}
 use Rattle.text.specs.Refusals.{placeOf}
 use Rattle.lines.specs.Told.{mapped, list-after}
 use Rattle.lines.specs.declared.Listed.the-variants.{Next, Refused as Unlisted}
@@ -18,7 +19,8 @@ use Rattle.capacities.proofs.all_layers.Tie as tie
 abbrev Inv-loop : tie.InvT-loop
 Inv-loop s w₀ g c₀ layer₀ w c layer =
     (c .at ≤ length s) × (c .line ≡ c₀ .line + 2 * layer) × (layer ≤ g .k) × (length w ≡ length w₀)
-    × (mapped (spreadAll (g .k) w₀ 0) (capacityLines (g .w) (g .h) (g .k) (placeOf s c₀)) ≡ mapped (spreadAll (g .k) w layer) (capacityLines (g .w) (g .h) (g .k - layer) (placeOf s c)))
+    × (mapped (spreadAll (g .k) w₀ 0) (capacityLines (g .w) (g .h) (dirsOf (g .k) (g .dirs)) 1 (g .k) (placeOf s c₀))
+    ≡ mapped (spreadAll (g .k) w layer) (capacityLines (g .w) (g .h) (dirsOf (g .k) (g .dirs)) (layer + 1) (g .k - layer) (placeOf s c)))
 
 abbrev μ-loop : tie.MeasureT-loop
 μ-loop s w₀ g c₀ layer₀ w c layer = g .k - layer
@@ -46,7 +48,7 @@ all-layers-spec =
     let y = c5 .layer-lines in
     let g = c .before .r .given in
     let t = caps-told (a .s .now) (a .g) (r .1 .0) (a .w .now) (y .last .1 .1 .0) (r .1 .1) (Unlisted (g .0 .0)) (placeOf (a .s .now) (a .from))
-    (sym (l .inv .4 ∙ caps-refused (a .s .now) (a .g .k) (l .w) (y .last .1 .1 .0) (l .layer) (a .g .w) (a .g .h) (a .g .k) (l .c) (y .result) (g .0 .0) (c7 .if1 .taken) (y .ensures .0) (g .1))) in
+    (sym (l .inv .4 ∙ caps-refused (a .s .now) (a .g .k) (l .w) (y .last .1 .1 .0) (l .layer) (a .g .w) (a .g .h) (dirsOf (a .g .k) (a .g .dirs)) (a .g .k) (l .c) (y .result) (g .0 .0) (c7 .if1 .taken) (y .ensures .0) (g .1))) in
     (t .0, (tt, (tt, y .ensures .1 .1 ∙ l .inv .3))))
     (λ c. search needs) (λ c. search needs) (λ c. search needs)
     (λ c. let c5 = c .before .before .before .before .before in
@@ -62,7 +64,7 @@ all-layers-spec =
       omega (arith, d .lines, l .inv .1),
       omega (arith, c7 .if1 .taken),
       y .ensures .1 .1 ∙ l .inv .3,
-      l .inv .4 ∙ caps-next (a .s .now) (a .g .k) (l .w) (y .last .1 .1 .0) (l .layer) (a .g .w) (a .g .h) (a .g .k) (l .c) (y .result) (g .0 .0) (c7 .if1 .taken) (y .ensures .0) (g .1),
+      l .inv .4 ∙ caps-next (a .s .now) (a .g .k) (l .w) (y .last .1 .1 .0) (l .layer) (a .g .w) (a .g .h) (dirsOf (a .g .k) (a .g .dirs)) (a .g .k) (l .c) (y .result) (g .0 .0) (c7 .if1 .taken) (y .ensures .0) (g .1),
     ))
     (λ c. search needs)
     (λ c. let c5 = c .before .before .before .before .before in
@@ -70,5 +72,5 @@ all-layers-spec =
     let r = c5 .pre in
     let l = c .before .before .loop in
     let t = caps-told (a .s .now) (a .g) (r .1 .0) (a .w .now) (l .w) (r .1 .1) (Next (l .c)) (placeOf (a .s .now) (a .from))
-    (sym (l .inv .4 ∙ caps-done (a .g .k) (l .w) (l .layer) (a .g .w) (a .g .h) (a .g .k) (placeOf (a .s .now) (l .c)) (c .if1 .left))) in
+    (sym (l .inv .4 ∙ caps-done (a .g .k) (l .w) (l .layer) (a .g .w) (a .g .h) (dirsOf (a .g .k) (a .g .dirs)) (a .g .k) (placeOf (a .s .now) (l .c)) (c .if1 .left))) in
     (t .0, (t .1, (record { place = l .inv .0; lines = omega (arith, l .inv .1, l .inv .2, c .if1 .left) }, l .inv .3)))))

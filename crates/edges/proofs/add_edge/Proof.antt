@@ -1,4 +1,5 @@
--- `add_edge` meets its contract.
+-- `add_edge` meets its contract. The edge is counted, marked and joined in this order; each step leaves what the others hold, so the
+-- laws of one more edge apply.
 -- Assumes nothing.
 use mathlib.Core.Bool.{true}
 use mathlib.Core.List.{List}
@@ -16,7 +17,7 @@ use Rattle.scan.specs.Pins.{triple}
 use Rattle.ways.specs.Ends.{endsOf, endsAfter}
 use Rattle.ways.specs.Entry.{startOf, placed, row-of}
 use Rattle.ways.specs.declared.Ends.the-variants.{New}
-use Rattle.edges.specs.Steps.{kept-links}
+use Rattle.edges.specs.Steps.{kept-tiles, kept-links}
 use Rattle.edges.proofs.Turns.{here-inside, there-inside, edge-inside, add-twice, new-few, add-joined, add-closed, steps-long}
 use Rattle.edges.proofs.add_edge.Statement.{statement}
 use Rattle.edges.proofs.add_edge.Tie as tie
@@ -54,6 +55,9 @@ module _ (k : tie.After-way-on) where
   edge-is : edge ≡ wayOf (start .args .g) here (start .args .e .z) .edge
   edge-is = ap (λ (z : Way). z .edge) (k .way-on .ensures)
 
+  known : edge < start .args .g .e
+  known = edge-inside (start .args .g) (start .pre .0) (start .args .stamp) entry is-inside is-way here there edge here-is there-is edge-is
+
 tile-at-requires : tie.Need-tile-at-requires
 tile-at-requires c κs =
     let x = c .before .args in
@@ -69,25 +73,56 @@ way-on-requires c κs =
     let h = c .tile-at .ensures in
     (p .0, (h .1, ap (λ (t : ℕ). t / x .g .w) (h .0) ∙ row-of (x .g .w) (x .e .x) (x .e .y) (at .column), p .1 .0 .3))
 
+put-demand-requires : tie.Need-put-demand-requires
+put-demand-requires c κs =
+    let k = c .before .before in
+    let p = start k .pre in
+    (p .0, (p .1 .0 .0, known k, p .1 .1 .0 .demand (edge k) (known k)))
+
+-- ---- the edge is counted
+
+module _ (d : tie.After-put-demand) where
+  abbrev way : tie.After-way-on
+  way = d .before .before .before
+
+  -- the working numbers then
+  abbrev counted : List ℕ
+  counted = d .put-demand .last .0
+
+  same-tiles : tilesOf (start way .args .g) counted ≡ tilesOf (start way .args .g) (start way .args .w .now)
+  same-tiles = kept-tiles (start way .args .g) (start way .args .w .now) counted (edge way) _ (known way) (d .put-demand .ensures)
+
+  counted-long : length counted ≡ length (start way .args .w .now)
+  counted-long = ap length (d .put-demand .ensures) ∙ length-set (start way .args .w .now) (demandAt (start way .args .g) + edge way) _
+
 put-marks-requires : tie.Need-put-marks-requires
 put-marks-requires c κs =
-    let k : tie.After-way-on = c .before .before .before in
+    let d : tie.After-put-demand = c .before .before .before .before in
+    let k = way d in
     let p = start k .pre in
-    (p .0, (p .1 .0 .0, here-inside (start k .args .g) (start k .pre .0) (start k .args .stamp) (entry k) (is-inside k) (is-way k) (here k) (there k) (edge k) (here-is k) (there-is k) (edge-is k), there-inside (start k .args .g) (start k .pre .0) (start k .args .stamp) (entry k) (is-inside k) (is-way k) (here k) (there k) (edge k) (here-is k) (there-is k) (edge-is k), p .1 .0 .3, p .1 .0 .1))
+    (p .0, (omega (arith, p .1 .0 .0, counted-long d), here-inside (start k .args .g) (start k .pre .0) (start k .args .stamp) (entry k) (is-inside k) (is-way k) (here k) (there k) (edge k) (here-is k) (there-is k) (edge-is k), there-inside (start k .args .g) (start k .pre .0) (start k .args .stamp) (entry k) (is-inside k) (is-way k) (here k) (there k) (edge k) (here-is k) (there-is k) (edge-is k), p .1 .0 .3, p .1 .0 .1))
 
--- the edge is marked, or there twice
-abbrev way : tie.After-put-marks → tie.After-way-on
-way c = c .before .before .before .before
+-- ---- the edge is marked, or there twice
+
+module _ (m : tie.After-put-marks) where
+  abbrev count : tie.After-put-demand
+  count = m .before .before .before .before .before
+
+  abbrev out : tie.After-way-on
+  out = way count
+
+  -- what the marks said, of the working numbers before the edge
+  said : m .put-marks .result ≡ endsOf (start out .args .stamp) (tilesOf (start out .args .g) (start out .args .w .now)) (here out) (there out) (start out .args .e .z)
+  said = m .put-marks .ensures .0 ∙ ap (λ (l : List ℕ). endsOf (start out .args .stamp) l (here out) (there out) (start out .args .e .z)) (same-tiles count)
 
 returns-2 : tie.Need-returns-2
 returns-2 c =
-    let marked : tie.After-put-marks = c .before .before .before .before in
-    let k = way marked in
-    let m = marked .put-marks in (
+    let m : tie.After-put-marks = c .before .before .before .before in
+    let k = out m in (
       λ ps w₀ ts s.
           add-twice (start k .args .g) (start k .pre .0) (start k .args .stamp) (entry k) (is-inside k) (is-way k) (here k) (there k) (edge k) (here-is k) (there-is k) (edge-is k) (start k .args .w .now) (start k .pre .1 .0 .0)
-          (sym (c .enum-told .given .1) ∙ m .ensures .0) (start k .args .v .judged) (start k .pre .1 .1 .1) ps w₀ ts (start k .args .v .parts) (start k .args .v .parts) (m .last .0) s,
-      (refl, m .ensures .1 .1 .long),
+          (sym (c .enum-told .given .1) ∙ said m) (start k .args .v .judged) (start k .pre .1 .1 .1) ps w₀ ts (start k .args .v .parts) (start k .args .v .parts) (m .put-marks .last .0) s,
+      (refl, m .put-marks .ensures .1 .1 .long ∙ counted-long (count m)),
     )
 
 -- ---- a new edge
@@ -96,51 +131,43 @@ module _ (q : tie.After-known-told) where
   abbrev marked : tie.After-put-marks
   marked = q .before .before .before .before .before
 
-  abbrev out : tie.After-way-on
-  out = way marked
+  abbrev at : tie.After-way-on
+  at = out marked
 
   -- how many of its tiles are new
   abbrev new : ℕ
   new = q .before .k .given .0 .0
 
   -- the working numbers after its marks
-  abbrev first : List ℕ
-  first = marked .put-marks .last .0
+  abbrev second : List ℕ
+  second = marked .put-marks .last .0
 
-  found-new : New new ≡ endsOf (start out .args .stamp) (tilesOf (start out .args .g) (start out .args .w .now)) (here out) (there out) (start out .args .e .z)
-  found-new = sym (q .before .k .given .1) ∙ marked .put-marks .ensures .0
+  found-new : New new ≡ endsOf (start at .args .stamp) (tilesOf (start at .args .g) (start at .args .w .now)) (here at) (there at) (start at .args .e .z)
+  found-new = sym (q .before .k .given .1) ∙ said marked
 
   few : new ≤ 2
-  few = new-few (start out .args .g) (start out .pre .0) (start out .args .stamp) (entry out) (is-inside out) (is-way out) (here out) (there out) (edge out) (here-is out) (there-is out) (edge-is out) (start out .args .w .now) (start out .pre .1 .0 .0) new found-new
+  few = new-few (start at .args .g) (start at .pre .0) (start at .args .stamp) (entry at) (is-inside at) (is-way at) (here at) (there at) (edge at) (here-is at) (there-is at) (edge-is at) (start at .args .w .now) (start at .pre .1 .0 .0) new found-new
 
-  marks-out : Outside (tilesAt (start out .args .g)) (start out .args .g .t) (start out .args .w .now) first
+  marks-out : Outside (tilesAt (start at .args .g)) (start at .args .g .t) (counted (count marked)) second
   marks-out = marked .put-marks .ensures .1 .1
 
-  marks-are : tilesOf (start out .args .g) first ≡ endsAfter (start out .args .stamp) (tilesOf (start out .args .g) (start out .args .w .now)) (here out) (there out) (start out .args .e .z)
-  marks-are = marked .put-marks .ensures .1 .0
-
-  known : edge out < start out .args .g .e
-  known = edge-inside (start out .args .g) (start out .pre .0) (start out .args .stamp) (entry out) (is-inside out) (is-way out) (here out) (there out) (edge out) (here-is out) (there-is out) (edge-is out)
-
-put-demand-requires : tie.Need-put-demand-requires
-put-demand-requires c κs =
-    let q = c .before in
-    let p = start (out q) .pre in
-    (p .0, (omega (arith, p .1 .0 .0, marks-out q .long), known q, omega (arith, marks-out q .low (demandAt (start (out q) .args .g) + edge (out q)) (omega (arith, known q)), p .1 .1 .0 .demand (edge (out q)) (known q))))
+  marks-are : tilesOf (start at .args .g) second ≡ endsAfter (start at .args .stamp) (tilesOf (start at .args .g) (start at .args .w .now)) (here at) (there at) (start at .args .e .z)
+  marks-are = marked .put-marks .ensures .1 .0 ∙ ap (λ (l : List ℕ). endsAfter (start at .args .stamp) l (here at) (there at) (start at .args .e .z)) (same-tiles (count marked))
 
 put-join-requires : tie.Need-put-join-requires
 put-join-requires c κs =
-    let q = c .before .before .before .before .before .before in
-    let x = start (out q) .args in
-    let p = start (out q) .pre in
-    let d = c .before .before .before .before .put-demand in (
+    let q : tie.After-known-told = c .before .before in
+    let k = at q in
+    let x = start k .args in
+    let p = start k .pre in
+    let d = count (marked q) in (
       p .0,
       (
-        omega (arith, p .1 .0 .0, marks-out q .long, ap length (d .ensures) ∙ length-set (first q) (demandAt (x .g) + edge (out q)) _),
-        here-inside (start (out q) .args .g) (start (out q) .pre .0) (start (out q) .args .stamp) (entry (out q)) (is-inside (out q)) (is-way (out q)) (here (out q)) (there (out q)) (edge (out q)) (here-is (out q)) (there-is (out q)) (edge-is (out q)),
-        there-inside (start (out q) .args .g) (start (out q) .pre .0) (start (out q) .args .stamp) (entry (out q)) (is-inside (out q)) (is-way (out q)) (here (out q)) (there (out q)) (edge (out q)) (here-is (out q)) (there-is (out q)) (edge-is (out q)),
+        omega (arith, p .1 .0 .0, marks-out q .long, counted-long d),
+        here-inside (x .g) (p .0) (x .stamp) (entry k) (is-inside k) (is-way k) (here k) (there k) (edge k) (here-is k) (there-is k) (edge-is k),
+        there-inside (x .g) (p .0) (x .stamp) (entry k) (is-inside k) (is-way k) (here k) (there k) (edge k) (here-is k) (there-is k) (edge-is k),
         p .1 .0 .1,
-        rw (kept-links (x .g) (x .w .now) (first q) (d .last .0) (edge (out q)) _ (known q) (marks-out q) (d .ensures)) (p .1 .1 .0 .links),
+        rw (kept-links (x .g) (x .w .now) (counted d) (second q) (edge k) _ (known k) (d .put-demand .ensures) (marks-out q)) (p .1 .1 .0 .links),
       ),
     )
 
@@ -148,37 +175,38 @@ put-join-requires c κs =
 
 returns : tie.Need-returns
 returns c =
-    let q = c .before .before .before .before .before .before .before .before .before .before in
-    let x = start (out q) .args in
-    let p = start (out q) .pre in
-    let d = c .before .before .before .before .before .before .before .before .put-demand in
+    let q : tie.After-known-told = c .before .before .before .before .before .before in
+    let k = at q in
+    let x = start k .args in
+    let p = start k .pre in
+    let d = count (marked q) in
     let m = c .before .before .before .put-join in (
       λ ps w₀ ts s.
-          add-joined (start (out q) .args .g) (start (out q) .pre .0) (start (out q) .args .stamp) (entry (out q)) (is-inside (out q)) (is-way (out q)) (here (out q)) (there (out q)) (edge (out q)) (here-is (out q)) (there-is (out q)) (edge-is (out q)) (x .w .now) (p .1 .0 .0) (new q) (found-new q) (first q) (d .last .0) (m .last .0) (marks-out q) (marks-are q) (d .ensures) (m .ensures .1)
+          add-joined (x .g) (p .0) (x .stamp) (entry k) (is-inside k) (is-way k) (here k) (there k) (edge k) (here-is k) (there-is k) (edge-is k) (x .w .now) (p .1 .0 .0) (new q) (found-new q) (counted d) (second q) (m .last .0) (d .put-demand .ensures) (marks-out q) (marks-are q) (m .ensures .1)
           (m .result) (m .ensures .0) (x .v .judged) (p .1 .1 .1) ps w₀ ts (x .v .parts) (x .v .parts + new q - 1) s (c .if1 .taken) (omega (arith, p .1 .1 .0 .some-part)),
-      (refl, steps-long _ _ _ _ _ _ (x .w .now) (first q) (d .last .0) (m .last .0) (marks-out q) (d .ensures) (m .ensures .1)),
+      (refl, steps-long _ _ _ _ _ _ (x .w .now) (counted d) (second q) (m .last .0) (d .put-demand .ensures) (marks-out q) (m .ensures .1)),
     )
 
 returns-3 : tie.Need-returns-3
 returns-3 c =
-    let q = c .before .before .before .before .before .before .before .before .before .before in
-    let x = start (out q) .args in
-    let p = start (out q) .pre in
-    let d = c .before .before .before .before .before .before .before .before .put-demand in
+    let q : tie.After-known-told = c .before .before .before .before .before .before in
+    let k = at q in
+    let x = start k .args in
+    let p = start k .pre in
+    let d = count (marked q) in
     let m = c .before .before .before .put-join in (
       λ ps w₀ ts s.
-          add-closed (start (out q) .args .g) (start (out q) .pre .0) (start (out q) .args .stamp) (entry (out q)) (is-inside (out q)) (is-way (out q)) (here (out q)) (there (out q)) (edge (out q)) (here-is (out q)) (there-is (out q)) (edge-is (out q)) (x .w .now) (p .1 .0 .0) (new q) (found-new q) (first q) (d .last .0) (m .last .0) (marks-out q) (marks-are q) (d .ensures) (m .ensures .1)
+          add-closed (x .g) (p .0) (x .stamp) (entry k) (is-inside k) (is-way k) (here k) (there k) (edge k) (here-is k) (there-is k) (edge-is k) (x .w .now) (p .1 .0 .0) (new q) (found-new q) (counted d) (second q) (m .last .0) (d .put-demand .ensures) (marks-out q) (marks-are q) (m .ensures .1)
           (m .result) (m .ensures .0) (x .v .judged) (p .1 .1 .1) ps w₀ ts (x .v .parts) (x .v .parts + new q) s (c .if1 .left) refl,
-      (refl, steps-long _ _ _ _ _ _ (x .w .now) (first q) (d .last .0) (m .last .0) (marks-out q) (d .ensures) (m .ensures .1)),
+      (refl, steps-long _ _ _ _ _ _ (x .w .now) (counted d) (second q) (m .last .0) (d .put-demand .ensures) (marks-out q) (m .ensures .1)),
     )
 
 pub add-edge-spec : {M : Type 1} → statement M
 add-edge-spec =
     tie.close
     (tie.spec
-    tile-at-requires way-on-requires (λ c. search needs) (λ c. search needs) put-marks-requires (λ c. search needs) (λ c. search needs)
-    put-demand-requires
-    (λ c. omega (arith, few (c .before .before .before .before .before), start (out (c .before .before .before .before .before)) .pre .1 .1 .0 .few-parts))
+    tile-at-requires way-on-requires (λ c. search needs) put-demand-requires (λ c. search needs) put-marks-requires (λ c. search needs) (λ c. search needs)
+    (λ c. omega (arith, few (c .before), start (at (c .before)) .pre .1 .1 .0 .few-parts))
     put-join-requires
-    (λ c. omega (arith, start (out (c .before .before .before .before .before .before .before .before .before .before)) .pre .1 .1 .0 .some-part))
+    (λ c. omega (arith, start (at (c .before .before .before .before .before .before)) .pre .1 .1 .0 .some-part))
     (λ c. search needs) returns (λ c. search needs) returns-2 (λ c. search needs) returns-3)

@@ -1,34 +1,53 @@
--- `edges_line` meets its contract: the line is opened, and its entries are read from behind the key on.
+-- `edges_line` meets its contract: the tests through 8, and then the last.
 -- Assumes nothing.
-use mathlib.Core.Path.{refl}
 use borrow.Author.Needs.{needs}
-use borrow.Author.Tests.{not-true, not-false}
-use Rattle.edges.proofs.Law.{read-other, read-there}
+use Rattle.edges.proofs.Law.{line-refused, line-served, line-unserved}
 use Rattle.edges.proofs.edges_line.Statement.{statement}
 use Rattle.edges.proofs.edges_line.Tie as tie
 
+-- the line was judged but for its last test
+module _ (j : tie.After-joined-line) where
+  abbrev z : tie.Start
+  z = j .before .before .before .before
+
 returns : tie.Need-returns
 returns c =
-    let o = c .before .before in
-    let x = o .before .before .before .before .args in
-    (λ ps w₀ h r. read-other (x .g) (x .stamp) (x .s .now) (x .c) (o .open-line .result) (o .open-line .ensures) ps w₀ (x .w .now) (not-true _ (c .if1 .taken)), refl)
+    let f = c .before in
+    let m = f .before .before in
+    let j = m .before .before .before .before in
+    let x = z j .args in
+    let k = j .joined-line in (
+      λ ps w₀ h r.
+          line-served (x .g) (x .stamp) (x .s .now) (x .c) ps w₀ (k .last .1 .1 .0) (k .result) (k .ensures .0 ps w₀ h r) (m .e .given .0 .0) (m .e .given .0 .1 .0) (m .e .given .1)
+          (f .served .result) (f .served .ensures) (c .if1 .taken),
+      k .ensures .1,
+    )
 
 returns-2 : tie.Need-returns-2
 returns-2 c =
-    let e = c .before .before .before .before in
-    let o = e .before .before in
-    let z = o .before .before .before .before in
-    let x = z .args in
-    let p = c .before .before .list in (
+    let m = c .before in
+    let j = m .before .before .before .before in
+    let x = z j .args in
+    let k = j .joined-line in (
+      λ ps w₀ h r. line-refused (x .g) (x .stamp) (x .s .now) (x .c) ps w₀ (k .last .1 .1 .0) (k .result) (k .ensures .0 ps w₀ h r) (m .r .given .0 .0) (m .r .given .1),
+      k .ensures .1,
+    )
+
+returns-3 : tie.Need-returns-3
+returns-3 c =
+    let f = c .before in
+    let m = f .before .before in
+    let j = m .before .before .before .before in
+    let x = z j .args in
+    let k = j .joined-line in (
       λ ps w₀ h r.
-          read-there (x .g) (x .stamp) (x .s .now) (x .c) (o .open-line .result) (o .open-line .ensures) ps w₀ (p .last .1 .1 .0) (z .pre .1 .0 .3) (not-false _ (e .if1 .left))
-          (p .result) (p .ensures .0 ps w₀ h r),
-      p .ensures .1,
+          line-unserved (x .g) (x .stamp) (x .s .now) (x .c) ps w₀ (k .last .1 .1 .0) (k .result) (k .ensures .0 ps w₀ h r) (m .e .given .0 .0) (m .e .given .0 .1 .0) (m .e .given .1)
+          (f .served .result) (f .served .ensures) (c .if1 .left),
+      k .ensures .1,
     )
 
 pub edges-line-spec : {M : Type 1} → statement M
 edges-line-spec =
     tie.close
     (tie.spec
-    (λ c. search needs) (λ c κs. let p = c .before .before .before .pre in (p .1 .0 .3, p .1 .0 .4)) returns
-    (λ c κs. let p = c .before .before .before .before .before .before .before .pre in (p .0, ((p .1 .0 .0, p .1 .0 .1, p .1 .0 .2), p .1 .1))) (λ c. search needs) returns-2)
+    (λ c κs. search needs) (λ c. search needs) (λ c. search needs) (λ c κs. search needs) (λ c. search needs) returns (λ c. search needs) returns-2 (λ c. search needs) returns-3)

@@ -6,7 +6,7 @@ use native.Mathlib.Omega.{arith}
 use borrow.Author.Needs.{needs}
 use Rattle.layout.specs.Areas.{loadsAt}
 use Rattle.flat.specs.FlatPlan.{capacitySum}
-use Rattle.flat.proofs.Fill.{Filled, filled-none, filled-next}
+use Rattle.layout.specs.Fill.{Filled, filled-none, filled-next}
 use Rattle.flat.proofs.Turns.{small-kept, sum-kept, summed}
 use Rattle.flat.proofs.flat_capacities.Statement.{statement}
 use Rattle.flat.proofs.flat_capacities.Tie as tie

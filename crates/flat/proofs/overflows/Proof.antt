@@ -8,7 +8,7 @@ use borrow.Author.Needs.{needs}
 use Rattle.model.specs.Limits.{mostNets}
 use Rattle.model.specs.Lists as lists
 use Rattle.flat.specs.FlatPlan.{overIn}
-use Rattle.flat.proofs.Fill.{Filled, filled-none, filled-next}
+use Rattle.layout.specs.Fill.{Filled, filled-none, filled-next}
 use Rattle.flat.proofs.Turns.{sum-next, most-next, over-kept, over-small, overflowed}
 use Rattle.flat.proofs.overflows.Statement.{statement}
 use Rattle.flat.proofs.overflows.Tie as tie

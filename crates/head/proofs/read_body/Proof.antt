@@ -1,8 +1,11 @@
 -- `read_body` meets its contract.
 -- Assumes nothing.
 use mathlib.Core.Path.{refl, sym, ap, _∙_}
-use Prim.Native.Nat.{_+_, _*_}
+use Prim.Native.Nat.{_+_, _*_, _≤_}
 use lib.ListN.{length}
+use Rattle.theory.specs.links.JobText.{dirsLines, dirs-few}
+use Rattle.layout.specs.Dirs.{dirsOf}
+use Rattle.layout.specs.declared.Shape.{Shape}
 use Rattle.lines.specs.Told.{fieldTold, list-after}
 use Rattle.capacities.specs.Told.{capacitiesTold}
 use Rattle.head.specs.Reads.{bodyIn}
@@ -12,6 +15,9 @@ use native.Mathlib.Omega.{arith}
 use borrow.Author.Needs.{needs}
 use Rattle.head.proofs.read_body.Statement.{statement}
 use Rattle.head.proofs.read_body.Tie as tie
+
+few : (g : Shape) → dirsLines (dirsOf (g .k) (g .dirs)) ≤ 1
+few g = dirs-few (dirsOf (g .k) (g .dirs))
 
 returns : tie.Need-returns
 unfolding bodyIn
@@ -93,14 +99,15 @@ pub read-body-spec : {M : Type 1} → statement M
 read-body-spec =
     tie.close
     (tie.spec
-    (λ c κs. search needs) (λ c. search needs) (λ c. search needs)
+    (λ c κs. let z = c .before .before in (z .pre .0 .0, omega (arith, z .pre .0 .1, few (z .args .g))))
+    (λ c. search needs) (λ c. search needs)
     (λ c κs. let c4 = c .before .before .before .before in
     let c7 = c4 .before .before .before in
     let a = c7 .args in
     let r = c7 .pre in
     let g = c .before .before .v .given in
     let x = weights-hold (length (a .s .now)) (a .c .line + 3) (g .0 .1 .0) (c4 .read-weights .result) (g .0 .0) (g .1) (c4 .read-weights .ensures .1) in
-    ((x .1 .place, omega (arith, x .1 .lines, r .0 .1)), (r .1 .0, capacities-room (a .g) (length (a .w .now)) (r .1 .0) (r .1 .1))))
+    ((x .1 .place, omega (arith, x .1 .lines, r .0 .1, few (a .g))), (r .1 .0, capacities-room (a .g) (length (a .w .now)) (r .1 .0) (r .1 .1))))
     (λ c. search needs) (λ c. search needs)
     (λ c κs. let c5 = c .before .before .before .before .before in
     let c8 = c5 .before .before .before in
@@ -113,5 +120,5 @@ read-body-spec =
     let q = c5 .all-layers in
     let x = weights-hold (length (a .s .now)) (a .c .line + 3) (g .0 .1 .0) (c10 .read-weights .result) (g .0 .0) (g .1) (c10 .read-weights .ensures .1) in
     let y = list-after (q .result) (length (a .s .now)) (g .0 .1 .0 .line + 2 * a .g .k) (i .0 .0) (i .1) (q .ensures .1 .1 .0) in
-    (y .place, omega (arith, y .lines, x .1 .lines, r .0 .1, r .1 .0 .k-most)))
+    (y .place, omega (arith, y .lines, x .1 .lines, r .0 .1, few (a .g), r .1 .0 .k-most)))
     (λ c. search needs) (λ c. search needs) returns (λ c. search needs) returns-2 (λ c. search needs) returns-3 (λ c. search needs) returns-4)

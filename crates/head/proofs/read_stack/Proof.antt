@@ -1,13 +1,13 @@
 -- `read_stack` meets its contract: the number of the line `layers`, judged by the stack's limits (`Stacks.antt`).
 -- Assumes nothing.
-use mathlib.Core.Path.{_≡_, refl, sym, ap, _∙_}
-use Prim.Native.Nat.{_+_}
+use mathlib.Core.Path.{_≡_, refl, sym, ap, _∙_, subst}
+use Prim.Native.Nat.{ℕ, _+_}
 use lib.ListN.{length}
 use Rattle.model.specs.Read.{found}
-use Rattle.layout.specs.declared.Shape.{Shape}
 use Rattle.text.specs.Refusals.{placeOf, numberOf, lineOf}
 use Rattle.lines.specs.Keyed.{keyBytes, numberLineBy}
 use Rattle.lines.specs.Told.{fieldTold, field-after}
+use Rattle.head.specs.Told.{sizesHold}
 use Rattle.head.proofs.Stacks.{stack-limits, stack-refused, stack-outside, stack-inside}
 use native.Mathlib.Omega.{arith}
 use borrow.Author.Needs.{needs}
@@ -25,13 +25,14 @@ module _ (k : tie.After-k) where
   there : numberLineBy (keyBytes "layers") (placeOf (z .args .s .now) (z .args .c)) ≡ found (k .k .given .0 .0) (placeOf (z .args .s .now) (k .k .given .0 .1 .0))
   there = sym (n .number-line .ensures .0) ∙ ap (fieldTold (z .args .s .now)) (k .k .given .1)
 
-shape-of-requires : tie.Need-shape-of-requires
-shape-of-requires c κs =
+read-ways-requires : tie.Need-read-ways-requires
+read-ways-requires c κs =
     let st = c .before in
     let k = st .before .before .before .before in
-    let r = z k .pre .1 in
+    let r = z k .pre in
+    let f = field-after (n k .number-line .result) (length (z k .args .s .now)) (z k .args .c .line + 1) (k .k .given .0 .0) (k .k .given .0 .1 .0) (k .k .given .1) (n k .number-line .ensures .1) in
     let l = stack-limits (k .k .given .0 .0) (st .stack .given .0 .0) (sym (st .before .before .new .ensures) ∙ st .stack .given .1) in
-    (r .0, r .1, r .2, r .3, omega (arith, l .0, l .1), omega (arith, l .0, l .2))
+    ((f .place, omega (arith, f .lines, r .0 .1)), (r .1 .0, r .1 .1, r .1 .2, r .1 .3, omega (arith, l .0, l .1), omega (arith, l .0, l .2)))
 
 returns : tie.Need-returns
 returns c =
@@ -52,10 +53,11 @@ returns-3 c =
     let k = st .before .before .before .before in
     let a = z k .args in
     let g = k .k .given in
-    let d = st .stack .given in (
-      ap (λ (x : Shape). found x (placeOf (a .s .now) (g .0 .1 .0))) (c .shape-of .ensures .0)
+    let d = st .stack .given in
+    let f = field-after (n k .number-line .result) (length (a .s .now)) (a .c .line + 1) (g .0 .0) (g .0 .1 .0) (g .1) (n k .number-line .ensures .1) in (
+      c .read-ways .ensures .0
           ∙ sym (stack-inside (a .w) (a .h) (placeOf (a .s .now) (a .c)) (g .0 .0) (placeOf (a .s .now) (g .0 .1 .0)) (there k) (d .0 .0) (sym (st .before .before .new .ensures) ∙ d .1)),
-      (c .shape-of .ensures .1, field-after (n k .number-line .result) (length (a .s .now)) (a .c .line + 1) (g .0 .0) (g .0 .1 .0) (g .1) (n k .number-line .ensures .1)),
+      subst (λ (m : ℕ). sizesHold (length (a .s .now)) m (c .read-ways .result)) (f .lines) (c .read-ways .ensures .1),
     )
 
 pub read-stack-spec : {M : Type 1} → statement M
@@ -65,4 +67,4 @@ read-stack-spec =
     (λ c. search needs)
     (λ c κs. let r = c .before .before .pre .0 in (r .0, omega (arith, r .1), refl))
     (λ c. search needs) (λ c. search needs) (λ c κs. search needs) (λ c. search needs) (λ c. search needs)
-    shape-of-requires returns returns-2 returns-3)
+    read-ways-requires returns returns-2 returns-3)

@@ -17,4 +17,4 @@ shape-of-spec =
     (λ c. omega (arith, one-less (c .args .w) (c .args .h) (omega arith) (omega arith)))
     (λ c. omega (arith, product (c .args .w) (c .args .h) (omega arith) (omega arith)))
     (λ c. omega (arith, less-one (c .args .w) (c .args .h) (omega arith) (omega arith), one-less (c .args .w) (c .args .h) (omega arith) (omega arith)))
-    (λ c. (refl, shaped (c .args .w) (c .args .h) (c .args .stack .layers) (c .pre .0) (c .pre .1) (c .pre .2) (c .pre .3) (c .pre .4) (c .pre .5))))
+    (λ c. (refl, shaped (c .args .w) (c .args .h) (c .args .stack .layers) (c .args .dirs) (c .pre .0) (c .pre .1) (c .pre .2) (c .pre .3) (c .pre .4) (c .pre .5))))

@@ -1,5 +1,6 @@
 -- Rows for the refusals of document 01's table, line by line, and for the ends of every range.
 -- Assumes nothing.
+use mathlib.Core.Bool.{true}
 use mathlib.Core.List.{List, [], _∷_, _++_, map}
 use mathlib.Core.Option.{Option, none, some}
 use Prim.Native.Nat.{ℕ, zero, suc, _+_, _-_}
@@ -151,7 +152,7 @@ acceptedRows =
 
 -- a list of four capacities, on line 7
 abbrev four : String → ℕ × ℕ
-four = on 6 (capacityLine "east" 4)
+four = on 6 (capacityLine "east" 4 true)
 
 -- "exactly (W − 1) × H capacities, comma between", "each 0 to 255"; form and list length before range
 abbrev pub capacityRows : List (Row (ℕ × ℕ))
@@ -186,7 +187,7 @@ emptyListRows =
 
 -- the `pins` line of the sample's net 1
 abbrev pins : String → ℕ × ℕ
-pins = on 12 (pinsLine (record { width = 3; height = 2; layers = 2 }))
+pins = on 12 (pinsLine (record { width = 3; height = 2; layers = 2; dirs = none }))
 
 abbrev pub pinRows : List (Row (ℕ × ℕ))
 pinRows =
@@ -215,7 +216,7 @@ pinRows =
 
 -- the `edges` line of a net with pins in the tiles (0, 0) and (0, 1) of the sample's grid
 abbrev edges : String → ℕ × ℕ
-edges = on 13 (edgesLine (record { width = 3; height = 2; layers = 2 }) (record { tile = 0; layer = 1 } ∷ record { tile = 3; layer = 1 } ∷ []))
+edges = on 13 (edgesLine (record { width = 3; height = 2; layers = 2; dirs = none }) (record { tile = 0; layer = 1 } ∷ record { tile = 3; layer = 1 } ∷ []))
 
 abbrev pub edgeRows : List (Row (ℕ × ℕ))
 edgeRows =

@@ -29,7 +29,7 @@ entry n s = record { net = n; score = s }
 
 -- a job of this width, height and number of layers, with alpha 1, beta 1, gamma 0
 abbrev jobWith : ℕ → ℕ → ℕ → List (List ℕ) → List Net → Job
-jobWith W H K cs ns = record { width = W; height = H; layers = K; alpha = 1; beta = 1; gamma = 0; capacities = cs; nets = ns }
+jobWith W H K cs ns = record { width = W; height = H; layers = K; dirs = none; alpha = 1; beta = 1; gamma = 0; capacities = cs; nets = ns }
 
 -- ---- what is read
 
@@ -39,6 +39,7 @@ mixed = record {
   width = 3;
   height = 2;
   layers = 3;
+  dirs = none;
   alpha = 4;
   beta = 5;
   gamma = 6;
@@ -113,6 +114,7 @@ weighed a b g = record {
   width = 3;
   height = 1;
   layers = 2;
+  dirs = none;
   alpha = a;
   beta = b;
   gamma = g;
@@ -126,6 +128,7 @@ stacked = record {
   width = 2;
   height = 1;
   layers = 3;
+  dirs = none;
   alpha = 0;
   beta = 1;
   gamma = 0;
@@ -191,8 +194,8 @@ overflowRows =
     ∷ (MO (jobWith 1 1 2 ([] ∷ [] ∷ []) []) gives 0)
     -- "MO/K rounded up"
     ∷ (ceilDiv 0 2 gives 0) ∷ (ceilDiv 1 2 gives 1) ∷ (ceilDiv 2 2 gives 1) ∷ (ceilDiv 3 2 gives 2) ∷ (ceilDiv 1 8 gives 1) ∷ (ceilDiv 8 8 gives 1)
-    ∷ (ceilDiv 9 8 gives 2) ∷ (limit crowded gives 2) ∷ (limit mixed gives 0) ∷ (limit piled gives 2)
-    ∷ (limit (jobWith 3 1 2 ((0 ∷ 0 ∷ []) ∷ (0 ∷ 0 ∷ []) ∷ []) (netWith (pin 0 1 ∷ []) (0 ∷ 1 ∷ []) ∷ netWith (pin 0 1 ∷ []) (0 ∷ 1 ∷ []) ∷ [])) gives 1)
+    ∷ (ceilDiv 9 8 gives 2) ∷ (limit crowded 0 gives 2) ∷ (limit mixed 0 gives 0) ∷ (limit piled 0 gives 2)
+    ∷ (limit (jobWith 3 1 2 ((0 ∷ 0 ∷ []) ∷ (0 ∷ 0 ∷ []) ∷ []) (netWith (pin 0 1 ∷ []) (0 ∷ 1 ∷ []) ∷ netWith (pin 0 1 ∷ []) (0 ∷ 1 ∷ []) ∷ [])) 0 gives 1)
     -- "On a layer the same with that layer's own capacity and nets."
     ∷ (layerOverflow crowded spreadOut 0 1 gives 1) ∷ (layerOverflow crowded spreadOut 0 2 gives 2) ∷ (layerOverflow crowded spreadOut 1 1 gives 0)
     ∷ (layerOverflow crowded spreadOut 1 2 gives 1)

@@ -3,6 +3,8 @@
 use mathlib.Core.Path.{refl, _∙_}
 use native.Mathlib.Omega.{arith}
 use borrow.Author.Needs.{needs}
+use Rattle.theory.specs.links.JobText.{dirs-few}
+use Rattle.layout.specs.Dirs.{dirsOf}
 use Rattle.reader.proofs.Job.{no-head, head-holds, short-text, areas-fit, nets-may-start, job-told}
 use Rattle.reader.proofs.read_job.Statement.{statement}
 use Rattle.reader.proofs.read_job.Tie as tie
@@ -37,7 +39,7 @@ read-rest-requires c κs =
       (
         (
           k .place,
-          omega (arith, k .lines, k .shaped .k-most),
+          omega (arith, k .lines, k .shaped .k-most, dirs-few (dirsOf (f .0 .0 .shape .k) (f .0 .0 .shape .dirs))),
           short-text (x .s .now) (x .order) (x .w .now) (y .last .1 .0) (y .result) (y .ensures .0) (x .answer) (x .print) (f .0 .0) (f .0 .1 .0) (f .1) (y .ensures .1 .0) (y .ensures .1 .1),
           k .nets,
         ),

@@ -172,7 +172,7 @@ pub data Chain (A : Type 0) : Type 1 where
   ends : Chain A → Chain A
 
 -- a line that may be left out is there exactly where the rest of the text begins with its key and `=`
-abbrev where-begun : {A : Type 0} → Option (List ℕ) → Result A → Result A → Result A
+abbrev pub where-begun : {A : Type 0} → Option (List ℕ) → Result A → Result A → Result A
 where-begun none there absent = absent
 where-begun (some v) there absent = there
 
@@ -264,15 +264,14 @@ module _ {A : Type 0} (s : Chain A) (p : Place) where
         go (inl (n, x)) = inl (n, suc (q .line), comes-refused n (suc (q .line)) w (x, refl), h n x)
         go (inr (c, r, o)) = g c r (o .stands .counted) (past-line w o)
 
-    -- at a line that may be left out the reading goes on behind it, or, where it does not stand there, with its value
-    pub then-may : {B C : Type 0} {k : Kind B C} {c : C} {f : C → Chain A} {q : Place} → Comes (may k c f) q → ((n : ℕ) → WrongLine k q n → W n (suc (q .line)))
-        → ((d : C) (r : Place) → r .line ≡ suc (q .line) → Comes (f d) r → Decided) → (Comes (f c) q → Decided) → Decided
-    then-may {B} {C} {k} {c} {f} {q} w h g a = go (behind (opening k) (q .rest)) refl (wrong-or-right k q)
+    -- at a line that may be left out, and is not, the reading goes on behind it
+    pub then-there : {B C : Type 0} {k : Kind B C} {c : C} {f : C → Chain A} {q : Place} {v : List ℕ} → Comes (may k c f) q → behind (opening k) (q .rest) ≡ some v
+        → ((n : ℕ) → WrongLine k q n → W n (suc (q .line))) → ((b : B) (r : Place) → r .line ≡ suc (q .line) → Comes (f (k .result b)) r → Decided) → Decided
+    then-there {B} {C} {k} {c} {f} {q} {v} w e h g = go (wrong-or-right k q)
       where
-        go : (o : Option (List ℕ)) → behind (opening k) (q .rest) ≡ o → ((n : ℕ) × WrongLine k q n) ⊎ ((d : C) × (r : Place) × RightLine k q d r) → Decided
-        go none e x = a (past-absent w e)
-        go (some v) e (inl (n, x)) = inl (n, suc (q .line), comes-refused n (suc (q .line)) w (v, e, x, refl), h n x)
-        go (some v) e (inr (d, r, o)) = g d r (o .stands .counted) (past-there w e o)
+        go : ((n : ℕ) × WrongLine k q n) ⊎ ((d : C) × (r : Place) × RightLine k q d r) → Decided
+        go (inl (n, x)) = inl (n, suc (q .line), comes-refused n (suc (q .line)) w (v, e, x, refl), h n x)
+        go (inr (d, r, o)) = g (o .entry) r (o .stands .counted) (subst (λ (x : C). Comes (f x) r) (o .gives) (past-there w e o))
 
     pub then-tests : {rs : Rows (Unit {0})} {t : Chain A} {q : Place} → Comes (tests rs t) q → ((n : ℕ) → First rs n → W n (q .line))
         → (Comes t q → Decided) → Decided

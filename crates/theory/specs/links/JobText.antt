@@ -5,17 +5,18 @@ use mathlib.Core.List.{List, [], _∷_, _++_}
 use mathlib.Core.Bool.{Bool, true, false, _&&_}
 use mathlib.Core.Option.{Option, none, some}
 use mathlib.Core.Logic.{_⊎_, _↔_}
-use Prim.Native.Nat.{ℕ, zero, suc, _+_, _*_, _<_}
+use Prim.Native.Nat.{ℕ, zero, suc, _+_, _*_, _≤_, _<_}
 use native.Mathlib.Omega.{arith}
 use lib.Dec.{T, leb}
 use lib.ListN.{length}
 use Rattle.model.specs.Grid.{eastCount, northCount}
-use Rattle.model.specs.Job.{Net, Job, entryCount}
+use Rattle.model.specs.Job.{Net, Job, runs, entryCount}
 use Rattle.model.specs.Limits.{leastSide, mostSide, leastLayers, mostLayers, mostWeight, mostNets, mostText}
-use Rattle.model.specs.Read.{Place, Result, Reading, next, need, capacityLine, capacityLines, Sizes, netLine, pinsLine, edgesLine, netLines, nets, Lent, workingNeed, printNeed, printFits, jobIn, read}
-use Rattle.theory.specs.links.Chain.{Rows, no-more, row, Chain, done, reads, tests, ends, run}
+use Rattle.model.specs.Text.{behind}
+use Rattle.model.specs.Read.{Place, Result, Reading, next, give, need, ifThere, optional, lettersLine, dirsLine, capacityLine, capacityLines, Sizes, netLine, pinsLine, edgesLine, netLines, nets, Lent, workingNeed, printNeed, printFits, jobIn, read}
+use Rattle.theory.specs.links.Chain.{Rows, no-more, row, Kind, opening, lineOf, Chain, done, reads, may, tests, ends, where-begun, run}
 use Rattle.theory.specs.links.Words.{leb-fails, and-fails}
-use Rattle.theory.specs.links.Kinds.{rangedKind, capacityKind, netKind, pinsKind, edgesKind, next-next, ranged-is, capacity-is, net-is, pins-is, edges-is}
+use Rattle.theory.specs.links.Kinds.{rangedKind, dirsKind, capacityKind, netKind, pinsKind, edgesKind, next-next, ranged-is, letters-is, capacity-is, net-is, pins-is, edges-is}
 
 -- the reading starts before the first line
 abbrev pub start : List ℕ → Place
@@ -23,28 +24,41 @@ start text = record { line = 0; rest = text }
 
 -- ---- the numbers of the lines: a line that a later request adds changes these alone
 
--- the line `layers`, after which the working numbers are tested
-abbrev pub layersLine : ℕ
-layersLine = 3
+-- a line `dirs`, where it stands
+abbrev pub dirsLines : Option (List ℕ) → ℕ
+dirsLines none = 0
+dirsLines (some ds) = 1
 
--- the lines of the head, for K layers; the last of them is `nets`
-abbrev pub headLines : ℕ → ℕ
-headLines K = layersLine + 4 + 2 * K
+pub dirs-few : (ds : Option (List ℕ)) → dirsLines ds ≤ 1
+dirs-few none = omega arith
+dirs-few (some ds) = omega arith
+
+-- the line after which the working numbers are tested: "Check 9 follows line 4, and gives 4 as its line, where line 4 begins `dirs=`", and else `layers`
+abbrev pub stackLine : Option (List ℕ) → ℕ
+stackLine ds = 3 + dirsLines ds
+
+-- the line of layer l's capacities, `east` with way 0 and `north` with way 1
+abbrev pub capacitiesAt : Option (List ℕ) → ℕ → ℕ → ℕ
+capacitiesAt ds l way = stackLine ds + 2 + 2 * l + way
+
+-- the lines of the head; the last of them is `nets`
+abbrev pub headLines : Option (List ℕ) → ℕ → ℕ
+headLines ds K = stackLine ds + 4 + 2 * K
 
 -- the lines through net i, counted from 1; the last of them is its `edges` line
-abbrev pub linesTo : ℕ → ℕ → ℕ
-linesTo K i = headLines K + 3 * i
+abbrev pub linesTo : Sizes → ℕ → ℕ
+linesTo z i = headLines (z .dirs) (z .layers) + 3 * i
 
 -- ---- the lines in their order
 
 module _ {A : Type 0} where
-  -- "for each layer, from 1 (the bottom) up, `east` and `north`"
-  abbrev pub layersChain : ℕ → ℕ → ℕ → (List (List ℕ) → Chain A) → Chain A
-  layersChain W H zero k = k []
-  layersChain W H (suc K) k =
-      reads (capacityKind "east" (eastCount W H)) (λ east.
-      reads (capacityKind "north" (northCount W H)) (λ north.
-      layersChain W H K (λ above. k ((east ++ north) ∷ above))))
+  -- "for each layer, from 1 (the bottom) up, `east` and `north`": m layers, from layer l on
+  abbrev pub layersChain : Sizes → ℕ → ℕ → (List (List ℕ) → Chain A) → Chain A
+  layersChain z l zero k = k []
+  layersChain z l (suc m) k =
+      reads (capacityKind "east" (eastCount (z .width) (z .height)) (runs (z .dirs) 0 l)) (λ east.
+      reads (capacityKind "north" (northCount (z .width) (z .height)) (runs (z .dirs) 1 l)) (λ north.
+      layersChain z (suc l) m (λ above. k ((east ++ north) ∷ above))))
 
   -- "for each net `net`, `pins`, `edges`": m nets, from number i on
   abbrev pub netsChain : Sizes → ℕ → ℕ → (List Net → Chain A) → Chain A
@@ -73,9 +87,13 @@ print-fails n (some m) = (λ e. (m, refl, leb-fails n m .0 e), λ h. leb-fails n
 abbrev pub one : (n : ℕ) (b : Bool) (Wrong : Type 0) → (b ≡ false) ↔ Wrong → Rows (Unit {0})
 one n b Wrong w = row n b Wrong (λ h. w) no-more
 
+-- how many working numbers are needed
+abbrev pub neededBy : Sizes → ℕ
+neededBy z = workingNeed (z .width) (z .height) (z .layers)
+
 -- "9, 3: fewer working numbers than needed"
-abbrev pub workingRow : Lent → ℕ → ℕ → ℕ → Rows (Unit {0})
-workingRow lent W H K = one 9 (leb (workingNeed W H K) (lent .working)) (lent .working < workingNeed W H K) (leb-fails (workingNeed W H K) (lent .working))
+abbrev pub workingRow : Lent → Sizes → Rows (Unit {0})
+workingRow lent z = one 9 (leb (neededBy z) (lent .working)) (lent .working < neededBy z) (leb-fails (neededBy z) (lent .working))
 
 -- "10, the `nets` line: fewer order entries than N"
 abbrev pub orderRow : Lent → ℕ → Rows (Unit {0})
@@ -92,21 +110,33 @@ roomRow lent N job =
 abbrev pub endChain : Lent → ℕ → Job → Chain Job
 endChain lent N job = ends (tests (roomRow lent N job) (done job))
 
--- "One key per line, in this fixed order"; "9 is found right after line 3, 10 after the `nets` line, 11 after the whole text"
+-- the lines behind test 9
+abbrev pub bodyChain : Lent → Sizes → Chain Job
+bodyChain lent z =
+    reads (rangedKind "alpha" 0 mostWeight) (λ a.
+    reads (rangedKind "beta" 0 mostWeight) (λ b.
+    reads (rangedKind "gamma" 0 mostWeight) (λ g.
+    layersChain z 1 (z .layers) (λ cs.
+    reads (rangedKind "nets" 0 mostNets) (λ N.
+    tests (orderRow lent N)
+    (netsChain z 1 N (λ ns.
+    endChain lent N
+    (record { width = z .width; height = z .height; layers = z .layers; dirs = z .dirs; alpha = a; beta = b; gamma = g; capacities = cs; nets = ns }))))))))
+
+-- what follows `layers` and `dirs`
+abbrev pub stackChain : Lent → ℕ → ℕ → ℕ → Option (List ℕ) → Chain Job
+stackChain lent W H K ds =
+    let z : Sizes = record { width = W; height = H; layers = K; dirs = ds } in
+    tests (workingRow lent z) (bodyChain lent z)
+
+-- "One key per line, in this fixed order"; "A line `dirs` may stand right after `layers`"; "9 is found right after line 3, 10 after the `nets` line, 11 after the
+-- whole text"
 abbrev pub jobChain : Lent → Chain Job
 jobChain lent =
     reads (rangedKind "width" leastSide mostSide) (λ W.
     reads (rangedKind "height" leastSide mostSide) (λ H.
     reads (rangedKind "layers" leastLayers mostLayers) (λ K.
-    tests (workingRow lent W H K)
-    (reads (rangedKind "alpha" 0 mostWeight) (λ a.
-    reads (rangedKind "beta" 0 mostWeight) (λ b.
-    reads (rangedKind "gamma" 0 mostWeight) (λ g.
-    layersChain W H K (λ cs.
-    reads (rangedKind "nets" 0 mostNets) (λ N.
-    tests (orderRow lent N)
-    (netsChain (record { width = W; height = H; layers = K }) 1 N (λ ns.
-    endChain lent N (record { width = W; height = H; layers = K; alpha = a; beta = b; gamma = g; capacities = cs; nets = ns }))))))))))))
+    may (dirsKind K) none (stackChain lent W H K))))
 
 -- "1, 0: text above 1,048,576 bytes"; "Number 1 comes first"
 abbrev pub textChain : Lent → List ℕ → Chain Job
@@ -120,15 +150,24 @@ same-next e h = λ i. next (e i) (λ a p. h a p i)
 behind-same : {A B : Type 0} (r : Result A) {f g : A → Reading B} → ((a : A) (p : Place) → f a p ≡ g a p) → next r f ≡ next r g
 behind-same r h = λ i. next r (λ a p. h a p i)
 
-module _ {A : Type 0} (W H : ℕ) where
-  layers-run : (K : ℕ) (k : List (List ℕ) → Chain A) (p : Place) → next (capacityLines W H K p) (λ cs. run (k cs)) ≡ run (layersChain W H K k) p
-  layers-run zero k p = refl
-  layers-run (suc K) k p =
-      next-next (capacityLine "east" (eastCount W H) p) _ _
-      ∙ same-next (capacity-is "east" (eastCount W H) p) (λ east q.
-      next-next (capacityLine "north" (northCount W H) q) _ _
-      ∙ same-next (capacity-is "north" (northCount W H) q) (λ north r.
-      next-next (capacityLines W H K r) _ _ ∙ layers-run K (λ above. k ((east ++ north) ∷ above)) r))
+-- a line that may be left out, and its value then
+optional-run : {A B C : Type 0} (k : Kind A (Option B)) (r : Reading B) (f : Option B → Chain C)
+    → ((q : Place) → next (r q) (λ b. give (some b)) ≡ lineOf k q) → (p : Place) → next (optional (k .key) r p) (λ o. run (f o)) ≡ run (may k none f) p
+optional-run k r f same p = go (behind (opening k) (p .rest))
+  where
+    go : (o : Option (List ℕ)) → next (ifThere o r p) (λ c. run (f c)) ≡ where-begun o (next (lineOf k p) (λ d. run (f d))) (run (f none) p)
+    go none = refl
+    go (some v) = λ i. next (same p i) (λ d. run (f d))
+
+module _ {A : Type 0} (z : Sizes) where
+  layers-run : (l m : ℕ) (k : List (List ℕ) → Chain A) (p : Place) → next (capacityLines (z .width) (z .height) (z .dirs) l m p) (λ cs. run (k cs)) ≡ run (layersChain z l m k) p
+  layers-run l zero k p = refl
+  layers-run l (suc m) k p =
+      next-next (capacityLine "east" (eastCount (z .width) (z .height)) (runs (z .dirs) 0 l) p) _ _
+      ∙ same-next (capacity-is "east" (eastCount (z .width) (z .height)) (runs (z .dirs) 0 l) p) (λ east q.
+      next-next (capacityLine "north" (northCount (z .width) (z .height)) (runs (z .dirs) 1 l) q) _ _
+      ∙ same-next (capacity-is "north" (northCount (z .width) (z .height)) (runs (z .dirs) 1 l) q) (λ north r.
+      next-next (capacityLines (z .width) (z .height) (z .dirs) (suc l) m r) _ _ ∙ layers-run (suc l) m (λ above. k ((east ++ north) ∷ above)) r))
 
 module _ {A : Type 0} (z : Sizes) where
   nets-run : (i m : ℕ) (k : List Net → Chain A) (p : Place) → next (nets z i m p) (λ ns. run (k ns)) ≡ run (netsChain z i m k) p
@@ -145,19 +184,22 @@ module _ {A : Type 0} (z : Sizes) where
       next-next (nets z (suc i) m s) _ _ ∙ nets-run (suc i) m (λ others. k (record { pins = pins; edges = edges } ∷ others)) s)))
 
 job-run : (lent : Lent) (p : Place) → jobIn lent p ≡ run (jobChain lent) p
-unfolding jobIn
+unfolding jobIn dirsLine
 job-run lent p =
     same-next (ranged-is "width" leastSide mostSide p) (λ W p1.
     same-next (ranged-is "height" leastSide mostSide p1) (λ H p2.
     same-next (ranged-is "layers" leastLayers mostLayers p2) (λ K p3.
-    behind-same (need 9 (leb (workingNeed W H K) (lent .working)) p3) (λ u p4.
+    behind-same (optional "dirs" (lettersLine K) p3) (λ ds pd.
+    let z : Sizes = record { width = W; height = H; layers = K; dirs = ds } in
+    behind-same (need 9 (leb (workingNeed W H K) (lent .working)) pd) (λ u p4.
     same-next (ranged-is "alpha" 0 mostWeight p4) (λ a p5.
     same-next (ranged-is "beta" 0 mostWeight p5) (λ b p6.
     same-next (ranged-is "gamma" 0 mostWeight p6) (λ g p7.
-    behind-same (capacityLines W H K p7) (λ cs p8.
+    behind-same (capacityLines W H ds 1 K p7) (λ cs p8.
     same-next (ranged-is "nets" 0 mostNets p8) (λ N p9.
-    behind-same (need 10 (leb N (lent .order)) p9) (λ u10 p10. nets-run (record { width = W; height = H; layers = K }) 1 N _ p10)))
-    ∙ layers-run W H K _ p7)))))))
+    behind-same (need 10 (leb N (lent .order)) p9) (λ u10 p10. nets-run z 1 N _ p10)))
+    ∙ layers-run z 1 K _ p7)))))
+    ∙ optional-run (dirsKind K) (lettersLine K) (stackChain lent W H K) (letters-is K) p3)))
 
 pub read-is : (lent : Lent) (text : List ℕ) → read lent text ≡ run (textChain lent text) (start text)
 unfolding read

@@ -3,20 +3,22 @@
 -- Assumes nothing.
 use mathlib.Core.Path.{_≡_, refl, _∙_}
 use mathlib.Core.List.{List, map}
-use mathlib.Core.Bool.{Bool, true, false, _&&_, not}
+use mathlib.Core.Bool.{Bool, true, false, _&&_, _||_, not}
+use mathlib.Core.Option.{Option, some}
 use mathlib.Core.Logic.{_≢_}
 use Prim.Native.Nat.{ℕ, _≤_, _<_}
 use Prim.Native.String.{String}
 use lib.Dec.{eqb, leb}
 use lib.ListN.{length}
-use Rattle.model.specs.Job.{Pin}
+use Rattle.model.specs.Grid.{eastCount}
+use Rattle.model.specs.Job.{Pin, groupIn, runs}
 use Rattle.model.specs.Limits.{mostCapacity}
-use Rattle.model.specs.Lists.{all, twice}
+use Rattle.model.specs.Lists.{upFrom, all, twice}
 use Rattle.model.specs.Text.{number, numbers}
 use Rattle.model.specs.Tree.{ring, joined}
-use Rattle.model.specs.Read.{Place, Result, refused, found, Reading, next, form, need, give, line, numberLine, ranged, capacityLine, Sizes, Triple, pinEntries, edgeEntries, pinInside, edgeInside, pinAt, edgeAt, samePin, netLine, pinsLine, edgesLine}
+use Rattle.model.specs.Read.{Place, Result, refused, found, Reading, next, form, need, give, line, numberLine, ranged, letters, lettersLine, capacityLine, Sizes, Triple, pinEntries, edgeEntries, pinInside, edgeInside, pinAt, edgeAt, samePin, netLine, pinsLine, hasLayer, edgesLine}
 use Rattle.theory.specs.links.Chain.{no-more, row, Kind, lineOf}
-use Rattle.theory.specs.links.Words.{leb-fails, eqb-fails, range-fails, Some, all-fails, PinInside, pin-fails, EdgeInside, edge-fails, PinTwice, pins-twice, EdgeTwice, edges-twice, HasRing, ring-fails, NotReached, joined-fails}
+use Rattle.theory.specs.links.Words.{leb-fails, eqb-fails, or-fails, range-fails, Some, all-fails, NotAny, any-fails, PinInside, pin-fails, EdgeInside, edge-fails, PinTwice, pins-twice, EdgeTwice, edges-twice, HasRing, ring-fails, NotReached, joined-fails}
 
 -- ---- the table
 
@@ -26,6 +28,10 @@ OutOfRange low high n = (low ≤ n) × (n ≤ high) → ⊥
 
 abbrev pub CapacitiesOut : List ℕ → Type 0
 CapacitiesOut = Some (λ c. mostCapacity < c)
+
+-- "a nonzero capacity"
+abbrev pub Nonzero : List ℕ → Type 0
+Nonzero = Some (λ c. c ≢ 0)
 
 abbrev pub PinsOut : Sizes → List Triple → Type 0
 PinsOut z = Some (λ p. PinInside (z .width) (z .height) (z .layers) p → ⊥)
@@ -41,6 +47,10 @@ pinsOf z = map (pinAt (z .width))
 abbrev pub edgesOf : Sizes → List Triple → List ℕ
 edgesOf z = map (edgeAt (z .width) (z .height))
 
+-- "an edge whose direction has no layer": none of the layers 1 to K runs its way
+abbrev pub NoLayer : Sizes → ℕ → Type 0
+NoLayer z e = NotAny (runs (z .dirs) (groupIn (z .dirs) (eastCount (z .width) (z .height)) e)) (upFrom 1 (z .layers))
+
 -- a line with one number from low to high: 2, 3
 abbrev pub rangedKind : String → ℕ → ℕ → Kind ℕ ℕ
 rangedKind key low high = record {
@@ -51,9 +61,19 @@ rangedKind key low high = record {
   result = λ n. n;
 }
 
--- a line of capacities: 2, "list length" too, and 3
-abbrev pub capacityKind : String → ℕ → Kind (List ℕ) (List ℕ)
-capacityKind key size = record {
+-- the line `dirs`: 2, where the letters are not as many as the layers too
+abbrev pub dirsKind : ℕ → Kind (List ℕ) (Option (List ℕ))
+dirsKind K = record {
+  key = "dirs";
+  number = 2;
+  value = letters;
+  rows = λ ds. row 2 (eqb (length ds) K) (length ds ≢ K) (λ h. eqb-fails (length ds) K) no-more;
+  result = λ ds. some ds;
+}
+
+-- a line of capacities: 2, "list length" too, 3, and "12, on a capacity line, after 3, a nonzero capacity on a layer that runs the other way"
+abbrev pub capacityKind : String → ℕ → Bool → Kind (List ℕ) (List ℕ)
+capacityKind key size along = record {
   key = key;
   number = 2;
   value = numbers;
@@ -61,7 +81,9 @@ capacityKind key size = record {
       row 2 (eqb (length cs) size) (length cs ≢ size) (λ h. eqb-fails (length cs) size)
       (row 3 (all (λ c. leb c mostCapacity) cs) (CapacitiesOut cs)
       (λ h. all-fails (λ c. leb c mostCapacity) (λ c. mostCapacity < c) (λ c. leb-fails c mostCapacity) cs)
-      no-more);
+      (row 12 (along || all (λ c. eqb c 0) cs) ((along ≡ false) × Nonzero cs)
+      (λ h. or-fails along (all (λ c. eqb c 0) cs) (all-fails (λ c. eqb c 0) (λ c. c ≢ 0) (λ c. eqb-fails c 0) cs))
+      no-more));
   result = λ cs. cs;
 }
 
@@ -93,7 +115,7 @@ pinsKind z = record {
 }
 
 -- the line `edges`: 2, 3, "6, the line: same edge twice on `edges`", "7, the `edges` line: the net's edges contain a ring", "8, the `edges` line: no ring, but
--- a pin or edge not reached from the first pin's tile along the edges"
+-- a pin or edge not reached from the first pin's tile along the edges", "13, on an `edges` line, after 8 and before 11, an edge whose direction has no layer"
 abbrev pub edgesKind : Sizes → List Pin → Kind (List Triple) (List ℕ)
 edgesKind z pins = record {
   key = "edges";
@@ -108,7 +130,9 @@ edgesKind z pins = record {
       (row 7 (not (ring W H (edgesOf z es))) (HasRing W H (edgesOf z es))
       (λ (h : (Unit {0} × (EdgesOut z es → ⊥)) × (EdgeTwice (edgesOf z es) → ⊥)). ring-fails W H (edgesOf z es) (h .1))
       (row 8 (joined W H pins (edgesOf z es)) (NotReached W H pins (edgesOf z es)) (λ h. joined-fails W H pins (edgesOf z es))
-      no-more)));
+      (row 13 (all (hasLayer z) (edgesOf z es)) (Some (NoLayer z) (edgesOf z es))
+      (λ h. all-fails (hasLayer z) (NoLayer z) (λ e. any-fails (runs (z .dirs) (groupIn (z .dirs) (eastCount W H) e)) (upFrom 1 (z .layers))) (edgesOf z es))
+      no-more))));
   result = edgesOf z;
 }
 
@@ -126,9 +150,22 @@ pub ranged-is : (key : String) (low high : ℕ) (p : Place) → ranged key low h
 unfolding ranged lineOf
 ranged-is key low high p = next-next (line 2 key p) (λ v. form 2 (number v)) (λ n. λ q. next (need 3 (leb low n && leb n high) q) (λ u. give n))
 
-pub capacity-is : (key : String) (size : ℕ) (p : Place) → capacityLine key size p ≡ lineOf (capacityKind key size) p
+pub letters-is : (K : ℕ) (p : Place) → next (lettersLine K p) (λ ds. give (some ds)) ≡ lineOf (dirsKind K) p
+unfolding lineOf
+letters-is K p =
+    next-next (line 2 "dirs" p) (λ v q. next (form 2 (letters v) q) (λ ds r. next (need 2 (eqb (length ds) K) r) (λ u. give ds))) (λ ds. give (some ds))
+    ∙ (λ i. next (line 2 "dirs" p) (λ v q. inner v q i))
+  where
+    inner : (v : List ℕ) (q : Place)
+        → next (next (form 2 (letters v) q) (λ ds r. next (need 2 (eqb (length ds) K) r) (λ u. give ds))) (λ ds. give (some ds))
+        ≡ next (form 2 (letters v) q) (λ ds r. next (need 2 (eqb (length ds) K) r) (λ u. give (some ds)))
+    inner v q =
+        next-next (form 2 (letters v) q) (λ ds r. next (need 2 (eqb (length ds) K) r) (λ u. give ds)) (λ ds. give (some ds))
+        ∙ (λ i. next (form 2 (letters v) q) (λ ds r. next-next (need 2 (eqb (length ds) K) r) (λ u. give ds) (λ ds. give (some ds)) i))
+
+pub capacity-is : (key : String) (size : ℕ) (along : Bool) (p : Place) → capacityLine key size along p ≡ lineOf (capacityKind key size along) p
 unfolding capacityLine lineOf
-capacity-is key size p = refl
+capacity-is key size along p = refl
 
 pub net-is : (i : ℕ) (p : Place) → netLine i p ≡ lineOf (netKind i) p
 unfolding lineOf

@@ -1,28 +1,35 @@
 -- What the record `Met` of demand 3 settles by itself, of any returned numbers and any buffers.
 -- Assumes nothing.
-use mathlib.Core.Path.{_≡_, _∙_, subst}
+use mathlib.Core.Path.{_≡_, ap₂, _∙_, subst}
 use mathlib.Core.List.{List, []}
-use Prim.Native.Nat.{ℕ, suc, _≤_, _<_}
+use Prim.Native.Nat.{ℕ, suc, _≤_, _<_, max}
 use lib.ListN.{take, getD}
 use Rattle.model.specs.Calls.{Returned, Buffers, planLent, planCall, printLent, printCall}
 use Rattle.model.specs.Demand3.{turns, Considered, Demand3, orderIn, planIn, Met}
 use Rattle.model.specs.Job.{Net, Job, netCount, layersOf, netOf, netEdges}
 use Rattle.model.specs.Layering.{IsLayering}
-use Rattle.model.specs.Overflow.{TO, limit, totalOverflow, maxOverflow}
+use Rattle.model.specs.Overflow.{TO, limit, totalOverflow, peak}
 use Rattle.model.specs.Plan.{totalVias}
 use Rattle.model.specs.Read.{Lent, found, Place, read}
 use Rattle.model.specs.Score.{Entry, order}
 use Rattle.model.specs.Vias.{vias}
 use Rattle.theory.specs.links.Best.{LegalFor}
+use Rattle.theory.specs.links.Groups.{maximum-both}
 use Rattle.theory.specs.links.Meets.{demand3-to, plan-meets-demand3, print-meets-demand3}
 use Rattle.theory.specs.links.Planned.{loadsAt, demand3-turn}
 use Rattle.theory.specs.links.Reading.{accepted}
 
 -- "An accepted job returns 0, 0, total vias, TO and MO of the layered plan"; the order list carries the order of the scores, and the plan's total and
--- maximum are just TO and MO/K rounded up
+-- maximum are just TO and the larger of the limits of the two groups: without `dirs`, MO/K rounded up
 pub met-settles : (j : Job) (r : Returned) (b : Buffers) → Met j r b
-    → (r .number ≡ 0) × (r .line ≡ 0) × (orderIn j (b .order) ≡ order j) × (r .total ≡ TO j) × (r .maximum ≡ limit j)
-met-settles j r b m = (m .number, m .line, m .order-told, m .total-told ∙ m .demand .total, m .maximum-told ∙ m .demand .maximum)
+    → (r .number ≡ 0) × (r .line ≡ 0) × (orderIn j (b .order) ≡ order j) × (r .total ≡ TO j) × (r .maximum ≡ max (limit j 0) (limit j 1))
+met-settles j r b m = (
+  m .number,
+  m .line,
+  m .order-told,
+  m .total-told ∙ m .demand .total,
+  m .maximum-told ∙ maximum-both j (planIn j (b .answer)) ∙ ap₂ max (m .demand .maximum 0) (m .demand .maximum 1),
+)
 
 -- ---- every field taken apart
 
@@ -41,11 +48,12 @@ viasInTurn j i ys = vias j (netInTurn j i .pins) (netInTurn j i .edges) ys
 abbrev pub LegalInTurn : Job → List (List ℕ) → ℕ → List ℕ → Type 0
 LegalInTurn j plan i ys = LegalFor j (loadsAt j (turns (order j)) plan i) (netInTurn j i) ys
 
--- A layering with every earlier net as in the plan, this net on the layers ys, the total TO and a maximum of at most MO/K rounded up
+-- A layering with every earlier net as in the plan, this net on the layers ys, the total TO, and in each group of edges a maximum of at most its
+-- limit
 abbrev pub Completes : Job → List (List ℕ) → ℕ → List ℕ → List (List ℕ) → Type 0
 Completes j plan i ys whole =
     IsLayering (layersOf j) (netEdges j) whole × ((k : ℕ) → k < i → getD whole (placeAt j k) [] ≡ getD plan (placeAt j k) [])
-    × (getD whole (placeAt j i) [] ≡ ys) × (totalOverflow j whole ≡ TO j) × (maxOverflow j whole ≤ limit j)
+    × (getD whole (placeAt j i) [] ≡ ys) × (totalOverflow j whole ≡ TO j) × ((g : ℕ) → peak j whole g ≤ limit j g)
 
 -- Demand 3 without its records: what stands here is said of the returned numbers r, the order list and the plan
 pub record Settled (j : Job) (r : Returned) (list : List Entry) (plan : List (List ℕ)) : Type 0 where
@@ -54,12 +62,12 @@ pub record Settled (j : Job) (r : Returned) (list : List Entry) (plan : List (Li
   pub order-list : take (netCount j) list ≡ order j
   pub is-layering : IsLayering (layersOf j) (netEdges j) plan
   pub total : totalOverflow j plan ≡ TO j
-  pub maximum : maxOverflow j plan ≡ limit j
+  pub maximum : (g : ℕ) → peak j plan g ≡ limit j g
   pub least-total : (ys : List (List ℕ)) → IsLayering (layersOf j) (netEdges j) ys → totalOverflow j plan ≤ totalOverflow j ys
-  pub least-maximum : (ys : List (List ℕ)) → IsLayering (layersOf j) (netEdges j) ys → maxOverflow j plan ≤ maxOverflow j ys
+  pub least-maximum : (ys : List (List ℕ)) → IsLayering (layersOf j) (netEdges j) ys → (g : ℕ) → peak j plan g ≤ peak j ys g
   pub vias-told : r .vias ≡ totalVias j plan
   pub total-told : r .total ≡ TO j
-  pub maximum-told : r .maximum ≡ limit j
+  pub maximum-told : r .maximum ≡ max (limit j 0) (limit j 1)
   -- at every turn there is a choice from which the later nets can be placed, and the plan's is one
   pub some-choice : (i : ℕ) → i < netCount j → (ys : List ℕ) × (whole : List (List ℕ)) × Completes j plan i ys whole
   pub completes : (i : ℕ) → i < netCount j → (whole : List (List ℕ)) × Completes j plan i (getD plan (placeAt j i) []) whole
@@ -90,7 +98,7 @@ met-says lent text j p e r b m = record {
   least-maximum = λ ys h. m .demand .none-lower ys h .1;
   vias-told = m .vias-told;
   total-told = m .total-told ∙ m .demand .total;
-  maximum-told = m .maximum-told ∙ m .demand .maximum;
+  maximum-told = met-settles j r b m .4;
   some-choice = λ i h. let c = d .exists i h in let w = considered-whole j plan i (c .0) (c .1) in (c .0, w .0, w .1);
   completes = λ i h. considered-whole j plan i (getD plan (placeAt j i) []) (d .considered i h);
   legal = λ i h. demand3-turn lent j (accepted lent text j p e) plan (demand3-to lent j (accepted lent text j p e) plan d) i h .0;

@@ -1,23 +1,25 @@
--- Document 01's table of refusals, row by row and in its words: a text is refused with a number and a line exactly where the row of this number fits this
+-- The table of refusals of documents 01 and 02, row by row and in its words: a text is refused with a number and a line exactly where the row of this number fits this
 -- line. Every line before it is then in order, and no row that is tested earlier fits the line.
 -- Assumes nothing.
 use mathlib.Core.Path.{_≡_, refl, sym, _∙_, subst}
 use mathlib.Core.List.{List, [], _∷_, _++_}
 use mathlib.Core.Bool.{Bool, false}
+use mathlib.Core.Option.{Option, none, some}
 use mathlib.Core.Logic.{inl, inr, ⊎-elim, _↔_, _≢_}
 use Prim.Native.Nat.{ℕ, zero, suc, _+_, _-_, _*_, _≤_, _<_}
 use Prim.Native.String.{String}
 use native.Mathlib.Omega.{arith}
 use lib.ListN.{length}
 use Rattle.model.specs.Grid.{eastCount, northCount}
-use Rattle.model.specs.Job.{Pin, Net, Job, entryCount}
+use Rattle.model.specs.Job.{Pin, Net, Job, runs, entryCount}
 use Rattle.model.specs.Limits.{leastSide, mostSide, leastLayers, mostLayers, mostWeight, mostNets, mostText}
-use Rattle.model.specs.Read.{Place, Result, refused, found, Sizes, Triple, Lent, workingNeed, read}
+use Rattle.model.specs.Read.{Place, Result, refused, found, Sizes, Triple, Lent, read}
+use Rattle.model.specs.Text.{behind}
 use Rattle.theory.specs.congestion.Sums.{same-cases}
-use Rattle.theory.specs.links.Chain.{First, Kind, Stands, WrongForm, WrongLine, form-wrong, row-wrong, Chain, done, reads, tests, ends, refused-found, same-refusal, AtFault, Comes, begun, comes-refused, Decided, then-line, then-tests, then-end, decided-refused, decided-found}
-use Rattle.theory.specs.links.Words.{PinTwice, EdgeTwice, HasRing, NotReached}
-use Rattle.theory.specs.links.Kinds.{OutOfRange, CapacitiesOut, PinsOut, EdgesOut, pinsOf, edgesOf, rangedKind, capacityKind, netKind, pinsKind, edgesKind}
-use Rattle.theory.specs.links.JobText.{one, start, layersLine, headLines, linesTo, layersChain, netsChain, RoomShort, workingRow, orderRow, roomRow, textChain, read-is}
+use Rattle.theory.specs.links.Chain.{First, Kind, opening, Stands, WrongForm, WrongLine, form-wrong, row-wrong, Chain, done, reads, may, tests, ends, refused-found, same-refusal, AtFault, Comes, begun, past-absent, comes-refused, Decided, then-line, then-there, then-tests, then-end, decided-refused, decided-found}
+use Rattle.theory.specs.links.Words.{Some, PinTwice, EdgeTwice, HasRing, NotReached}
+use Rattle.theory.specs.links.Kinds.{OutOfRange, CapacitiesOut, Nonzero, PinsOut, EdgesOut, NoLayer, pinsOf, edgesOf, rangedKind, dirsKind, capacityKind, netKind, pinsKind, edgesKind}
+use Rattle.theory.specs.links.JobText.{one, start, dirsLines, stackLine, capacitiesAt, headLines, linesTo, layersChain, netsChain, bodyChain, RoomShort, neededBy, workingRow, orderRow, roomRow, textChain, read-is}
 
 -- ---- tables
 
@@ -66,17 +68,28 @@ module _ (lent : Lent) (text : List ℕ) where
     pub stands : Stands k before b after
     pub line : l ≡ suc (before .line)
 
-  -- K is "the value of `layers`", and N that of `nets`: the lines up to there are in order, and give it
-  abbrev pub Layers : ℕ → Type 1
-  Layers K = (W : ℕ) × (H : ℕ) × (s : Chain Job) × (q : Place) × At (tests (workingRow lent W H K) s) q
+  -- line l is a line `dirs`, and has these letters; every line before it is in order
+  pub record LettersAt (K : ℕ) (ds : List ℕ) (l : ℕ) : Type 1 where
+    pub others : Option (List ℕ) → Chain Job
+    pub before : Place
+    pub after : Place
+    pub value : List ℕ
+    pub comes : At (may (dirsKind K) none others) before
+    pub there : behind (opening (dirsKind K)) (before .rest) ≡ some value
+    pub stands : Stands (dirsKind K) before ds after
+    pub line : l ≡ suc (before .line)
+
+  -- z is what `width`, `height`, `layers` and `dirs` say, and N the value of `nets`: the lines up to there are in order, and give it
+  abbrev pub Stack : Sizes → Type 1
+  Stack z = (q : Place) × At (tests (workingRow lent z) (bodyChain lent z)) q
 
   abbrev pub Nets : ℕ → Type 1
   Nets N = (s : Chain Job) × (q : Place) × At (tests (orderRow lent N) s) q
 
-  -- K is the value of `layers`, and net i one of the N nets
-  pub record OfNet (K i : ℕ) : Type 1 where
+  -- z is what the head says, and net i one of the N nets
+  pub record OfNet (z : Sizes) (i : ℕ) : Type 1 where
     pub N : ℕ
-    pub layers : Layers K
+    pub stack : Stack z
     pub nets : Nets N
     pub from : 1 ≤ i
     pub upto : i ≤ N
@@ -90,58 +103,74 @@ module _ (lent : Lent) (text : List ℕ) where
   -- "2, the line: wrong key, form or list length, missing line, text after the last line"
   pub data WrongAt (l : ℕ) : Type 1 where
     wrong-form : {B C : Type 0} (k : Kind B C) (f : C → Chain Job) (q : Place) → At (reads k f) q → k .number ≡ 2 → WrongForm k q → l ≡ suc (q .line) → WrongAt l
-    wrong-length : (key : String) (size : ℕ) (cs : List ℕ) → LineAt (capacityKind key size) cs l → length cs ≢ size → WrongAt l
+    -- a line that may be left out, and is not
+    wrong-there : {B C : Type 0} (k : Kind B C) (c : C) (f : C → Chain Job) (q : Place) (v : List ℕ) → At (may k c f) q → behind (opening k) (q .rest) ≡ some v
+        → k .number ≡ 2 → WrongForm k q → l ≡ suc (q .line) → WrongAt l
+    wrong-length : (key : String) (size : ℕ) (along : Bool) (cs : List ℕ) → LineAt (capacityKind key size along) cs l → length cs ≢ size → WrongAt l
+    wrong-letters : (K : ℕ) (ds : List ℕ) → LettersAt K ds l → length ds ≢ K → WrongAt l
     text-after : (s : Chain Job) (q : Place) → At (ends s) q → (q .rest ≡ [] → ⊥) → l ≡ suc (q .line) → WrongAt l
 
   -- "3, the line: a number outside its range, an edge leaving the grid"
   pub data RangeAt (l : ℕ) : Type 1 where
     number-out : (key : String) (low high m : ℕ) → LineAt (rangedKind key low high) m l → OutOfRange low high m → RangeAt l
-    capacity-out : (key : String) (size : ℕ) (cs : List ℕ) → LineAt (capacityKind key size) cs l → length cs ≡ size → CapacitiesOut cs → RangeAt l
+    capacity-out : (key : String) (size : ℕ) (along : Bool) (cs : List ℕ) → LineAt (capacityKind key size along) cs l → length cs ≡ size → CapacitiesOut cs → RangeAt l
     pin-out : (z : Sizes) (ps : List Triple) → LineAt (pinsKind z) ps l → PinsOut z ps → RangeAt l
     edge-out : (z : Sizes) (pins : List Pin) (es : List Triple) → LineAt (edgesKind z pins) es l → EdgesOut z es → RangeAt l
 
   -- "4, the line: net number out of turn": the `net` line of net i is the first of its three
   pub data TurnAt (l : ℕ) : Type 1 where
-    out-of-turn : (K i m : ℕ) → OfNet K i → LineAt (netKind i) m (linesTo K i - 2) → m ≢ i → l ≡ linesTo K i - 2 → TurnAt l
+    out-of-turn : (z : Sizes) (i m : ℕ) → OfNet z i → LineAt (netKind i) m (linesTo z i - 2) → m ≢ i → l ≡ linesTo z i - 2 → TurnAt l
 
   -- "5, the line: same tile and layer twice on `pins`": that of net i is the second of its three
   pub data PinTwiceAt (l : ℕ) : Type 1 where
-    pin-twice : (z : Sizes) (i : ℕ) (ps : List Triple) → OfNet (z .layers) i → LineAt (pinsKind z) ps (linesTo (z .layers) i - 1) → (PinsOut z ps → ⊥)
-        → PinTwice (pinsOf z ps) → l ≡ linesTo (z .layers) i - 1 → PinTwiceAt l
+    pin-twice : (z : Sizes) (i : ℕ) (ps : List Triple) → OfNet z i → LineAt (pinsKind z) ps (linesTo z i - 1) → (PinsOut z ps → ⊥)
+        → PinTwice (pinsOf z ps) → l ≡ linesTo z i - 1 → PinTwiceAt l
 
   -- "6, the line: same edge twice on `edges`": that of net i is the third of its three
   pub data EdgeTwiceAt (l : ℕ) : Type 1 where
-    edge-twice : (z : Sizes) (i : ℕ) (pins : List Pin) (es : List Triple) → OfNet (z .layers) i → LineAt (edgesKind z pins) es (linesTo (z .layers) i) → (EdgesOut z es → ⊥)
-        → EdgeTwice (edgesOf z es) → l ≡ linesTo (z .layers) i → EdgeTwiceAt l
+    edge-twice : (z : Sizes) (i : ℕ) (pins : List Pin) (es : List Triple) → OfNet z i → LineAt (edgesKind z pins) es (linesTo z i) → (EdgesOut z es → ⊥)
+        → EdgeTwice (edgesOf z es) → l ≡ linesTo z i → EdgeTwiceAt l
 
   -- "7, the `edges` line: the net's edges contain a ring"
   pub data RingAt (l : ℕ) : Type 1 where
-    has-ring : (z : Sizes) (i : ℕ) (pins : List Pin) (es : List Triple) → OfNet (z .layers) i → LineAt (edgesKind z pins) es (linesTo (z .layers) i) → (EdgesOut z es → ⊥)
-        → (EdgeTwice (edgesOf z es) → ⊥) → HasRing (z .width) (z .height) (edgesOf z es) → l ≡ linesTo (z .layers) i → RingAt l
+    has-ring : (z : Sizes) (i : ℕ) (pins : List Pin) (es : List Triple) → OfNet z i → LineAt (edgesKind z pins) es (linesTo z i) → (EdgesOut z es → ⊥)
+        → (EdgeTwice (edgesOf z es) → ⊥) → HasRing (z .width) (z .height) (edgesOf z es) → l ≡ linesTo z i → RingAt l
 
   -- "8, the `edges` line: no ring, but a pin or edge not reached from the first pin's tile along the edges"
   pub data ReachAt (l : ℕ) : Type 1 where
-    not-reached : (z : Sizes) (i : ℕ) (pins : List Pin) (es : List Triple) → OfNet (z .layers) i → LineAt (edgesKind z pins) es (linesTo (z .layers) i) → (EdgesOut z es → ⊥)
-        → (EdgeTwice (edgesOf z es) → ⊥) → (HasRing (z .width) (z .height) (edgesOf z es) → ⊥) → NotReached (z .width) (z .height) pins (edgesOf z es) → l ≡ linesTo (z .layers) i → ReachAt l
+    not-reached : (z : Sizes) (i : ℕ) (pins : List Pin) (es : List Triple) → OfNet z i → LineAt (edgesKind z pins) es (linesTo z i) → (EdgesOut z es → ⊥)
+        → (EdgeTwice (edgesOf z es) → ⊥) → (HasRing (z .width) (z .height) (edgesOf z es) → ⊥) → NotReached (z .width) (z .height) pins (edgesOf z es) → l ≡ linesTo z i → ReachAt l
 
-  -- "9, 3: fewer working numbers than needed", "right after line 3": the line read last is line 3
+  -- "9, 3: fewer working numbers than needed", "right after line 3": the line read last is line 3, and line 4 where it begins `dirs=`
   pub data WorkingAt (l : ℕ) : Type 1 where
-    working-short : (W H K : ℕ) (s : Chain Job) (q : Place) → At (tests (workingRow lent W H K) s) q → lent .working < workingNeed W H K
-        → q .line ≡ layersLine → l ≡ layersLine → WorkingAt l
+    working-short : (z : Sizes) (q : Place) → At (tests (workingRow lent z) (bodyChain lent z)) q → lent .working < neededBy z
+        → q .line ≡ stackLine (z .dirs) → l ≡ stackLine (z .dirs) → WorkingAt l
 
   -- "10, the `nets` line: fewer order entries than N", "after the `nets` line", the last of the head
   pub data OrderAt (l : ℕ) : Type 1 where
-    order-short : (K N : ℕ) (s : Chain Job) (q : Place) → Layers K → At (tests (orderRow lent N) s) q → lent .order < N
-        → q .line ≡ headLines K → l ≡ headLines K → OrderAt l
+    order-short : (z : Sizes) (N : ℕ) (s : Chain Job) (q : Place) → Stack z → At (tests (orderRow lent N) s) q → lent .order < N
+        → q .line ≡ headLines (z .dirs) (z .layers) → l ≡ headLines (z .dirs) (z .layers) → OrderAt l
 
   -- "11, the last line: answer list or print buffer too short", "after the whole text", whose last line is that of the last net
   pub data RoomAt (l : ℕ) : Type 1 where
-    room-short : (K N : ℕ) (j : Job) (s : Chain Job) (q : Place) → Layers K → Nets N → At (tests (roomRow lent N j) s) q → RoomShort lent N (entryCount j)
-        → q .line ≡ linesTo K N → l ≡ linesTo K N → RoomAt l
+    room-short : (z : Sizes) (N : ℕ) (j : Job) (s : Chain Job) (q : Place) → Stack z → Nets N → At (tests (roomRow lent N j) s) q → RoomShort lent N (entryCount j)
+        → q .line ≡ linesTo z N → l ≡ linesTo z N → RoomAt l
 
-  -- the table: the rows of the numbers 1 to 11
+  -- "12, on a capacity line, after 3, a nonzero capacity on a layer that runs the other way": the line of layer m, `east` with way 0 and `north` with way 1
+  pub data ClosedAt (l : ℕ) : Type 1 where
+    closed-layer : (z : Sizes) (key : String) (size m way : ℕ) (cs : List ℕ) → Stack z → LineAt (capacityKind key size (runs (z .dirs) way m)) cs l
+        → length cs ≡ size → (CapacitiesOut cs → ⊥) → runs (z .dirs) way m ≡ false → Nonzero cs → l ≡ capacitiesAt (z .dirs) m way → ClosedAt l
+
+  -- "13, on an `edges` line, after 8 and before 11, an edge whose direction has no layer"
+  pub data NoLayerAt (l : ℕ) : Type 1 where
+    no-layer : (z : Sizes) (i : ℕ) (pins : List Pin) (es : List Triple) → OfNet z i → LineAt (edgesKind z pins) es (linesTo z i) → (EdgesOut z es → ⊥)
+        → (EdgeTwice (edgesOf z es) → ⊥) → (HasRing (z .width) (z .height) (edgesOf z es) → ⊥) → (NotReached (z .width) (z .height) pins (edgesOf z es) → ⊥)
+        → Some (NoLayer z) (edgesOf z es) → l ≡ linesTo z i → NoLayerAt l
+
+  -- the table: the rows of the numbers 1 to 13
   abbrev pub table : List (ℕ → Type 1)
-  table = TooLong ∷ WrongAt ∷ RangeAt ∷ TurnAt ∷ PinTwiceAt ∷ EdgeTwiceAt ∷ RingAt ∷ ReachAt ∷ WorkingAt ∷ OrderAt ∷ RoomAt ∷ []
+  table =
+      TooLong ∷ WrongAt ∷ RangeAt ∷ TurnAt ∷ PinTwiceAt ∷ EdgeTwiceAt ∷ RingAt ∷ ReachAt ∷ WorkingAt ∷ OrderAt ∷ RoomAt ∷ ClosedAt ∷ NoLayerAt ∷ []
 
   -- why the number n and the line l are returned
   abbrev pub Why : ℕ → ℕ → Type 1
@@ -167,43 +196,52 @@ module _ (lent : Lent) (text : List ℕ) where
 
   wrong-refused : (l : ℕ) → WrongAt l → Refused 2 l
   wrong-refused l (wrong-form k f q a m w z) = by 2 l a (form-wrong w (sym m), z)
-  wrong-refused l (wrong-length key size cs d w) = by-line 2 l d (inl (w, refl))
+  wrong-refused l (wrong-there k c f q v a e m w z) = by 2 l a (v, e, form-wrong w (sym m), z)
+  wrong-refused l (wrong-length key size along cs d w) = by-line 2 l d (inl (w, refl))
+  wrong-refused l (wrong-letters K ds d w) = by 2 l (d .comes) (d .value, d .there, row-wrong ds (d .after) (d .stands) (inl (w, refl)), d .line)
   wrong-refused l (text-after s q a h z) = by 2 l a (h, refl, z)
 
   range-refused : (l : ℕ) → RangeAt l → Refused 3 l
   range-refused l (number-out key low high m d w) = by-line 3 l d (inl (w, refl))
-  range-refused l (capacity-out key size cs d u w) = by-line 3 l d (inr (λ h. h u, inl (w, refl)))
+  range-refused l (capacity-out key size along cs d u w) = by-line 3 l d (inr (λ h. h u, inl (w, refl)))
   range-refused l (pin-out z ps d w) = by-line 3 l d (inl (w, refl))
   range-refused l (edge-out z pins es d w) = by-line 3 l d (inl (w, refl))
 
   turn-refused : (l : ℕ) → TurnAt l → Refused 4 l
-  turn-refused l (out-of-turn K i m o d w z) = on-line 4 l z (by-line 4 (linesTo K i - 2) d (inl (w, refl)))
+  turn-refused l (out-of-turn z i m o d w y) = on-line 4 l y (by-line 4 (linesTo z i - 2) d (inl (w, refl)))
 
   pin-refused : (l : ℕ) → PinTwiceAt l → Refused 5 l
-  pin-refused l (pin-twice z i ps o d u w y) = on-line 5 l y (by-line 5 (linesTo (z .layers) i - 1) d (inr (u, inl (w, refl))))
+  pin-refused l (pin-twice z i ps o d u w y) = on-line 5 l y (by-line 5 (linesTo z i - 1) d (inr (u, inl (w, refl))))
 
   edge-refused : (l : ℕ) → EdgeTwiceAt l → Refused 6 l
-  edge-refused l (edge-twice z i pins es o d u w y) = on-line 6 l y (by-line 6 (linesTo (z .layers) i) d (inr (u, inl (w, refl))))
+  edge-refused l (edge-twice z i pins es o d u w y) = on-line 6 l y (by-line 6 (linesTo z i) d (inr (u, inl (w, refl))))
 
   ring-refused : (l : ℕ) → RingAt l → Refused 7 l
-  ring-refused l (has-ring z i pins es o d u v w y) = on-line 7 l y (by-line 7 (linesTo (z .layers) i) d (inr (u, inr (v, inl (w, refl)))))
+  ring-refused l (has-ring z i pins es o d u v w y) = on-line 7 l y (by-line 7 (linesTo z i) d (inr (u, inr (v, inl (w, refl)))))
 
   reach-refused : (l : ℕ) → ReachAt l → Refused 8 l
-  reach-refused l (not-reached z i pins es o d u v x w y) = on-line 8 l y (by-line 8 (linesTo (z .layers) i) d (inr (u, inr (v, inr (x, inl (w, refl))))))
+  reach-refused l (not-reached z i pins es o d u v x w y) = on-line 8 l y (by-line 8 (linesTo z i) d (inr (u, inr (v, inr (x, inl (w, refl))))))
 
   working-refused : (l : ℕ) → WorkingAt l → Refused 9 l
-  working-refused l (working-short W H K s q a w z y) = by 9 l a (inl (w, refl), y ∙ sym z)
+  working-refused l (working-short z q a w y x) = by 9 l a (inl (w, refl), x ∙ sym y)
 
   order-refused : (l : ℕ) → OrderAt l → Refused 10 l
-  order-refused l (order-short K N s q k a w z y) = by 10 l a (inl (w, refl), y ∙ sym z)
+  order-refused l (order-short z N s q k a w y x) = by 10 l a (inl (w, refl), x ∙ sym y)
 
   room-refused : (l : ℕ) → RoomAt l → Refused 11 l
-  room-refused l (room-short K N j s q k n a w z y) = by 11 l a (inl (w, refl), y ∙ sym z)
+  room-refused l (room-short z N j s q k n a w y x) = by 11 l a (inl (w, refl), x ∙ sym y)
+
+  closed-refused : (l : ℕ) → ClosedAt l → Refused 12 l
+  closed-refused l (closed-layer z key size m way cs k d u v e w y) = by-line 12 l d (inr (λ h. h u, inr (v, inl ((e, w), refl))))
+
+  no-layer-refused : (l : ℕ) → NoLayerAt l → Refused 13 l
+  no-layer-refused l (no-layer z i pins es o d u v x y w a) =
+      on-line 13 l a (by-line 13 (linesTo z i) d (inr (u, inr (v, inr (x, inr (y, inl (w, refl)))))))
 
   table-refused : EachRow Refused table 1
   table-refused =
       long-refused also wrong-refused also range-refused also turn-refused also pin-refused also edge-refused also ring-refused also reach-refused
-      also working-refused also order-refused also room-refused also tt
+      also working-refused also order-refused also room-refused also closed-refused also no-layer-refused also tt
 
   why-refused : (n l : ℕ) → Why n l → Refused n l
   why-refused zero l w = nothing w
@@ -236,25 +274,49 @@ module _ (lent : Lent) (text : List ℕ) where
       told n m d (inl (w, e)) = because 3 n (suc (q .line)) e (number-out key low high m d w)
       told n m d (inr (u, w)) = absurd w
 
-  capacity-on : (key : String) (size : ℕ) {f : List ℕ → Chain Job} {q : Place} → At (reads (capacityKind key size) f) q → Goes f q → End
-  capacity-on key size {q = q} a = reads-on refl a told
+  -- a capacity line of layer m, with its way
+  capacity-on : (z : Sizes) (m way : ℕ) (key : String) (size : ℕ) {f : List ℕ → Chain Job} {q : Place} → Stack z → suc (q .line) ≡ capacitiesAt (z .dirs) m way
+      → At (reads (capacityKind key size (runs (z .dirs) way m)) f) q → Goes f q → End
+  capacity-on z m way key size {q = q} k y a = reads-on refl a told
     where
+      along : Bool
+      along = runs (z .dirs) way m
+
       long : (cs : List ℕ) → (length cs ≢ size → ⊥) → length cs ≡ size
       long cs u = ⊎-elim (λ t. t .0) (λ t. absurd (u (t .0))) (same-cases (length cs) size)
 
-      told : (n : ℕ) (cs : List ℕ) → LineAt (capacityKind key size) cs (suc (q .line)) → First (capacityKind key size .rows cs) n → Why n (suc (q .line))
-      told n cs d (inl (w, e)) = because 2 n (suc (q .line)) e (wrong-length key size cs d w)
-      told n cs d (inr (u, inl (w, e))) = because 3 n (suc (q .line)) e (capacity-out key size cs d (long cs u) w)
-      told n cs d (inr (u, inr (v, w))) = absurd w
+      told : (n : ℕ) (cs : List ℕ) → LineAt (capacityKind key size along) cs (suc (q .line)) → First (capacityKind key size along .rows cs) n → Why n (suc (q .line))
+      told n cs d (inl (w, e)) = because 2 n (suc (q .line)) e (wrong-length key size along cs d w)
+      told n cs d (inr (u, inl (w, e))) = because 3 n (suc (q .line)) e (capacity-out key size along cs d (long cs u) w)
+      told n cs d (inr (u, inr (v, inl (w, e)))) = because 12 n (suc (q .line)) e (closed-layer z key size m way cs k d (long cs u) v (w .0) (w .1) y)
+      told n cs d (inr (u, inr (v, inr (x, w)))) = absurd w
 
-  net-on : (K i : ℕ) {f : Unit {0} → Chain Job} {q : Place} → OfNet K i → suc (q .line) ≡ linesTo K i - 2 → At (reads (netKind i) f) q → Goes f q → End
-  net-on K i {q = q} o z a = reads-on refl a told
+  -- the line `dirs`, where it stands
+  dirs-on : (K : ℕ) {f : Option (List ℕ) → Chain Job} {q : Place} → At (may (dirsKind K) none f) q
+      → ((ds : Option (List ℕ)) (r : Place) → r .line ≡ q .line + dirsLines ds → At (f ds) r → End) → End
+  dirs-on K {f} {q} a g = go (behind (opening (dirsKind K)) (q .rest)) refl
+    where
+      go : (o : Option (List ℕ)) → behind (opening (dirsKind K)) (q .rest) ≡ o → End
+      go none e = g none q (omega arith) (past-absent a e)
+      go (some v) e = then-there (textChain lent text) (start text) Why a e told there
+        where
+          told : (n : ℕ) → WrongLine (dirsKind K) q n → Why n (suc (q .line))
+          told n (form-wrong w h) = because 2 n (suc (q .line)) h (wrong-there (dirsKind K) none f q v a e refl w refl)
+          told n (row-wrong ds r s (inl (w, h))) =
+              because 2 n (suc (q .line)) h (wrong-letters K ds (record { others = f; before = q; after = r; value = v; comes = a; there = e; stands = s; line = refl }) w)
+          told n (row-wrong ds r s (inr (u, w))) = absurd w
+
+          there : (ds : List ℕ) (r : Place) → r .line ≡ suc (q .line) → At (f (some ds)) r → End
+          there ds r h = g (some ds) r (omega arith)
+
+  net-on : (z : Sizes) (i : ℕ) {f : Unit {0} → Chain Job} {q : Place} → OfNet z i → suc (q .line) ≡ linesTo z i - 2 → At (reads (netKind i) f) q → Goes f q → End
+  net-on z i {q = q} o y a = reads-on refl a told
     where
       told : (n m : ℕ) → LineAt (netKind i) m (suc (q .line)) → First (netKind i .rows m) n → Why n (suc (q .line))
-      told n m d (inl (w, e)) = because 4 n (suc (q .line)) e (out-of-turn K i m o (subst (LineAt (netKind i) m) z d) w z)
+      told n m d (inl (w, e)) = because 4 n (suc (q .line)) e (out-of-turn z i m o (subst (LineAt (netKind i) m) y d) w y)
       told n m d (inr (u, w)) = absurd w
 
-  pins-on : (z : Sizes) (i : ℕ) {f : List Pin → Chain Job} {q : Place} → OfNet (z .layers) i → suc (q .line) ≡ linesTo (z .layers) i - 1 → At (reads (pinsKind z) f) q → Goes f q → End
+  pins-on : (z : Sizes) (i : ℕ) {f : List Pin → Chain Job} {q : Place} → OfNet z i → suc (q .line) ≡ linesTo z i - 1 → At (reads (pinsKind z) f) q → Goes f q → End
   pins-on z i {q = q} o y a = reads-on refl a told
     where
       told : (n : ℕ) (ps : List Triple) → LineAt (pinsKind z) ps (suc (q .line)) → First (pinsKind z .rows ps) n → Why n (suc (q .line))
@@ -262,11 +324,11 @@ module _ (lent : Lent) (text : List ℕ) where
       told n ps d (inr (u, inl (w, e))) = because 5 n (suc (q .line)) e (pin-twice z i ps o (subst (LineAt (pinsKind z) ps) y d) u w y)
       told n ps d (inr (u, inr (v, w))) = absurd w
 
-  edges-on : (z : Sizes) (i : ℕ) (pins : List Pin) {f : List ℕ → Chain Job} {q : Place} → OfNet (z .layers) i → suc (q .line) ≡ linesTo (z .layers) i
+  edges-on : (z : Sizes) (i : ℕ) (pins : List Pin) {f : List ℕ → Chain Job} {q : Place} → OfNet z i → suc (q .line) ≡ linesTo z i
       → At (reads (edgesKind z pins) f) q → Goes f q → End
   edges-on z i pins {q = q} o y a = reads-on refl a told
     where
-      here : (es : List Triple) → LineAt (edgesKind z pins) es (suc (q .line)) → LineAt (edgesKind z pins) es (linesTo (z .layers) i)
+      here : (es : List Triple) → LineAt (edgesKind z pins) es (suc (q .line)) → LineAt (edgesKind z pins) es (linesTo z i)
       here es = subst (LineAt (edgesKind z pins) es) y
 
       told : (n : ℕ) (es : List Triple) → LineAt (edgesKind z pins) es (suc (q .line)) → First (edgesKind z pins .rows es) n → Why n (suc (q .line))
@@ -274,33 +336,31 @@ module _ (lent : Lent) (text : List ℕ) where
       told n es d (inr (u, inl (w, e))) = because 6 n (suc (q .line)) e (edge-twice z i pins es o (here es d) u w y)
       told n es d (inr (u, inr (v, inl (w, e)))) = because 7 n (suc (q .line)) e (has-ring z i pins es o (here es d) u v w y)
       told n es d (inr (u, inr (v, inr (x, inl (w, e))))) = because 8 n (suc (q .line)) e (not-reached z i pins es o (here es d) u v x w y)
-      told n es d (inr (u, inr (v, inr (x, inr (y, w))))) = absurd w
+      told n es d (inr (u, inr (v, inr (x, inr (t, inl (w, e)))))) = because 13 n (suc (q .line)) e (no-layer z i pins es o (here es d) u v x t w y)
+      told n es d (inr (u, inr (v, inr (x, inr (t, inr (b, w)))))) = absurd w
 
-  -- two lines for each layer
-  layers-on : (W H K : ℕ) {k : List (List ℕ) → Chain Job} {q : Place} → At (layersChain W H K k) q
-      → ((cs : List (List ℕ)) (r : Place) → r .line ≡ q .line + 2 * K → At (k cs) r → End) → End
-  layers-on W H zero {q = q} a g = g [] q (omega arith) a
-  layers-on W H (suc K) a g =
-      capacity-on "east" (eastCount W H) a (λ east q1 e1 a1.
-      capacity-on "north" (northCount W H) a1 (λ north q2 e2 a2.
-      layers-on W H K a2 (λ above r e. g ((east ++ north) ∷ above) r (omega arith))))
+  -- two lines for each layer: m of them, from layer l on
+  layers-on : (z : Sizes) → Stack z → (l m : ℕ) {k : List (List ℕ) → Chain Job} {q : Place} → suc (q .line) ≡ capacitiesAt (z .dirs) l 0
+      → At (layersChain z l m k) q → ((cs : List (List ℕ)) (r : Place) → r .line ≡ q .line + 2 * m → At (k cs) r → End) → End
+  layers-on z st l zero {q = q} y a g = g [] q (omega arith) a
+  layers-on z st l (suc m) y a g =
+      capacity-on z l 0 "east" (eastCount (z .width) (z .height)) st y a (λ east q1 e1 a1.
+      capacity-on z l 1 "north" (northCount (z .width) (z .height)) st (omega arith) a1 (λ north q2 e2 a2.
+      layers-on z st (suc l) m (omega arith) a2 (λ above r e. g ((east ++ north) ∷ above) r (omega arith))))
 
   -- three lines for each net: m of them, from number i on
-  module _ (z : Sizes) (N : ℕ) (layers : Layers (z .layers)) (nets : Nets N) where
-    abbrev K : ℕ
-    K = z .layers
-
-    nets-on : (i m : ℕ) {k : List Net → Chain Job} {q : Place} → At (netsChain z i m k) q → 1 ≤ i → i + m ≡ suc N → q .line + 3 ≡ linesTo K i
-        → ((ns : List Net) (r : Place) → r .line ≡ linesTo K N → At (k ns) r → End) → End
+  module _ (z : Sizes) (N : ℕ) (stack : Stack z) (nets : Nets N) where
+    nets-on : (i m : ℕ) {k : List Net → Chain Job} {q : Place} → At (netsChain z i m k) q → 1 ≤ i → i + m ≡ suc N → q .line + 3 ≡ linesTo z i
+        → ((ns : List Net) (r : Place) → r .line ≡ linesTo z N → At (k ns) r → End) → End
     nets-on i zero {q = q} a low high e g = g [] q (omega arith) a
     nets-on i (suc m) {q = q} a low high e g =
-        net-on K i of (omega arith) a (λ u q1 e1 a1.
+        net-on z i of (omega arith) a (λ u q1 e1 a1.
         pins-on z i of (omega arith) a1 (λ pins q2 e2 a2.
         edges-on z i pins of (omega arith) a2 (λ edges q3 e3 a3.
         nets-on (suc i) m a3 (omega arith) (omega arith) (omega arith) (λ others. g (record { pins = pins; edges = edges } ∷ others)))))
       where
-        of : OfNet K i
-        of = record { N = N; layers = layers; nets = nets; from = low; upto = omega arith }
+        of : OfNet z i
+        of = record { N = N; stack = stack; nets = nets; from = low; upto = omega arith }
 
   -- one test at the line read last
   test-on : (m : ℕ) {b : Bool} {Wrong : Type 0} {w : (b ≡ false) ↔ Wrong} {s : Chain Job} {q : Place} → At (tests (one m b Wrong w) s) q
@@ -318,20 +378,22 @@ module _ (lent : Lent) (text : List ℕ) where
       ranged-on "width" leastSide mostSide a0 (λ W q1 e1 a1.
       ranged-on "height" leastSide mostSide a1 (λ H q2 e2 a2.
       ranged-on "layers" leastLayers mostLayers a2 (λ K q3 e3 a3.
-      let layers : Layers K = (W, H, _, q3, a3) in
-      test-on 9 a3 (λ h. working-short W H K _ q3 a3 h (omega arith) (omega arith)) (λ a4.
-      ranged-on "alpha" 0 mostWeight a4 (λ a q5 e5 a5.
-      ranged-on "beta" 0 mostWeight a5 (λ b q6 e6 a6.
-      ranged-on "gamma" 0 mostWeight a6 (λ g q7 e7 a7.
-      layers-on W H K a7 (λ cs q8 e8 a8.
-      ranged-on "nets" 0 mostNets a8 (λ N q9 e9 a9.
-      let nets : Nets N = (_, q9, a9) in
-      test-on 10 a9 (λ h. order-short K N _ q9 layers a9 h (omega arith) (omega arith)) (λ a10.
-      nets-on (record { width = W; height = H; layers = K }) N layers nets 1 N a10 (omega arith) (omega arith) (omega arith) (λ ns q11 e11 a11.
-      then-end (textChain lent text) (start text) Why a11 (λ h. text-after _ q11 a11 h refl) (λ a12.
-      let j : Job = record { width = W; height = H; layers = K; alpha = a; beta = b; gamma = g; capacities = cs; nets = ns } in
-      test-on 11 a12 (λ h. room-short K N j _ q11 layers nets a12 h e11 e11) (λ a13.
-      inr (j, q11, a13)))))))))))))))
+      dirs-on K a3 (λ ds q4 e4 a4.
+      let z : Sizes = record { width = W; height = H; layers = K; dirs = ds } in
+      let stack : Stack z = (q4, a4) in
+      test-on 9 a4 (λ h. working-short z q4 a4 h (omega arith) (omega arith)) (λ a5.
+      ranged-on "alpha" 0 mostWeight a5 (λ a q6 e6 a6.
+      ranged-on "beta" 0 mostWeight a6 (λ b q7 e7 a7.
+      ranged-on "gamma" 0 mostWeight a7 (λ g q8 e8 a8.
+      layers-on z stack 1 K (omega arith) a8 (λ cs q9 e9 a9.
+      ranged-on "nets" 0 mostNets a9 (λ N q10 e10 a10.
+      let nets : Nets N = (_, q10, a10) in
+      test-on 10 a10 (λ h. order-short z N _ q10 stack a10 h (omega arith) (omega arith)) (λ a11.
+      nets-on z N stack nets 1 N a11 (omega arith) (omega arith) (omega arith) (λ ns q12 e12 a12.
+      then-end (textChain lent text) (start text) Why a12 (λ h. text-after _ q12 a12 h refl) (λ a13.
+      let j : Job = record { width = W; height = H; layers = K; dirs = ds; alpha = a; beta = b; gamma = g; capacities = cs; nets = ns } in
+      test-on 11 a13 (λ h. room-short z N j _ q12 stack nets a13 h e12 e12) (λ a14.
+      inr (j, q12, a14))))))))))))))))
 
   refused-why : (n l : ℕ) → read lent text ≡ refused n l → Why n l
   refused-why n l e = decided-refused (textChain lent text) (start text) Why decided n l (sym (read-is lent text) ∙ e)
@@ -386,11 +448,19 @@ module _ (lent : Lent) (text : List ℕ) where
   pub eleven-iff : (l : ℕ) → (read lent text ≡ refused 11 l) ↔ RoomAt l
   eleven-iff = refused-iff 11
 
+  -- "12, on a capacity line, after 3, a nonzero capacity on a layer that runs the other way"
+  pub twelve-iff : (l : ℕ) → (read lent text ≡ refused 12 l) ↔ ClosedAt l
+  twelve-iff = refused-iff 12
+
+  -- "13, on an `edges` line, after 8 and before 11, an edge whose direction has no layer"
+  pub thirteen-iff : (l : ℕ) → (read lent text ≡ refused 13 l) ↔ NoLayerAt l
+  thirteen-iff = refused-iff 13
+
   -- no refusal has another number
-  pub number-range : (n l : ℕ) → read lent text ≡ refused n l → (1 ≤ n) × (n ≤ 11)
+  pub number-range : (n l : ℕ) → read lent text ≡ refused n l → (1 ≤ n) × (n ≤ 13)
   number-range n l e = go n (refused-why n l e)
     where
-      go : (m : ℕ) → Why m l → (1 ≤ m) × (m ≤ 11)
+      go : (m : ℕ) → Why m l → (1 ≤ m) × (m ≤ 13)
       go zero w = nothing w
       go (suc m) w = omega (arith, row-below table m l w)
 

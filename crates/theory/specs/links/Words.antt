@@ -2,7 +2,7 @@
 -- Assumes nothing.
 use mathlib.Core.Path.{_≡_, refl, sym, ap, subst}
 use mathlib.Core.List.{List, [], _∷_}
-use mathlib.Core.Bool.{Bool, true, false, _&&_, not, cond}
+use mathlib.Core.Bool.{Bool, true, false, _&&_, _||_, not, cond}
 use mathlib.Core.Logic.{_⊎_, inl, inr, ⊎-elim, _↔_, _≢_}
 use Prim.Native.Nat.{ℕ, _+_, _≤_, _<_}
 use native.Mathlib.Omega.{arith}
@@ -44,6 +44,10 @@ pub and-fails : {P Q : Type 0} (a b : Bool) → (a ≡ false) ↔ P → (b ≡ f
 and-fails true b v w = (λ e. inr (w .0 e), ⊎-elim (λ h. absurd (subst T (v .1 h) tt)) (w .1))
 and-fails false b v w = (λ e. inl (v .0 refl), λ h. refl)
 
+pub or-fails : {Q : Type 0} (a b : Bool) → (b ≡ false) ↔ Q → ((a || b) ≡ false) ↔ ((a ≡ false) × Q)
+or-fails true b w = (λ e. absurd (subst T e tt), λ h. h .0)
+or-fails false b w = (λ e. (refl, w .0 e), λ h. w .1 (h .1))
+
 -- ---- lists
 
 cond-fails : {P Q : Type 0} (a b : Bool) → (a ≡ false) ↔ P → (b ≡ false) ↔ Q → (cond a b false ≡ false) ↔ (P ⊎ Q)
@@ -68,6 +72,19 @@ module _ {A : Type 0} where
   pub all-fails : (p : A → Bool) (P : A → Type 0) → ((x : A) → (p x ≡ false) ↔ P x) → (xs : List A) → (all p xs ≡ false) ↔ Some P xs
   all-fails p P w [] = (λ e. subst T e tt, λ h. absurd h)
   all-fails p P w (x ∷ xs) = cond-fails (p x) (all p xs) (w x) (all-fails p P w xs)
+
+  -- no element passes
+  abbrev pub NotAny : (A → Bool) → List A → Type 0
+  NotAny p [] = Unit {0}
+  NotAny p (x ∷ xs) = (p x ≡ false) × NotAny p xs
+
+  pub any-fails : (p : A → Bool) (xs : List A) → (any p xs ≡ false) ↔ NotAny p xs
+  any-fails p [] = (λ e. tt, λ h. refl)
+  any-fails p (x ∷ xs) = go (p x) refl (any-fails p xs)
+    where
+      go : (b : Bool) → p x ≡ b → (any p xs ≡ false) ↔ NotAny p xs → (cond (p x) true (any p xs) ≡ false) ↔ ((p x ≡ false) × NotAny p xs)
+      go true e w = rw e (λ f. absurd (subst T f tt), λ h. h .0)
+      go false e w = rw e (λ f. (refl, w .0 f), λ h. w .1 (h .1))
 
   any-holds : (p : A → Bool) (P : A → Type 0) → ((x : A) → (p x ≡ true) ↔ P x) → (xs : List A) → (any p xs ≡ true) ↔ Some P xs
   any-holds p P w [] = (λ e. subst T (sym e) tt, λ h. absurd h)

@@ -22,7 +22,7 @@ put-legal-requires c κs =
     let f = tiles-fit (x .g) (r .0) (x .n) (x .w .now) (r .1 .0) (s .stamp) (s .turn) (s .walked) in (
       r .0,
       (
-        (r .1 .0, f .0, f .1, omega (arith, limit-fits (x .g) (r .0) (x .n) (x .w .now) (r .1 .0) (s .stamp) (s .turn) (s .walked) (limitAt (x .limits)) (s .limit-is))),
+        (r .1 .0, f .0, f .1, limit-fits (x .g) (r .0) (x .n) (x .w .now) (r .1 .0) (s .stamp) (s .turn) (s .walked) (limitAt (x .limits)) (s .limit-is)),
         (
           small (x .g) (r .0) (x .n) (x .w .now) (r .1 .0) (s .stamp) (s .turn) (s .walked),
           known (x .g) (r .0) (x .n) (x .w .now) (r .1 .0) (s .stamp) (s .turn) (s .walked),

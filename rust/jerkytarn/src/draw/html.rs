@@ -40,6 +40,7 @@ fn put_block(out: &mut String, name: &str, block: &Block) {
         "{{\"name\":{name},\"width\":{},\"height\":{},\"layers\":{},\"vias\":{},",
         job.grid.width, job.grid.height, job.layers, block.totals.vias
     );
+    put_directions(out, block);
     let _ =
         write!(out, "\"flat\":[{},{}],\"overflow\":[{},{}],", flat.total, flat.maximum, layered.total, layered.maximum);
     out.push_str("\n\"capacity\":");
@@ -50,6 +51,16 @@ fn put_block(out: &mut String, name: &str, block: &Block) {
     let turns = block.turns();
     put_list(out, 0..job.nets.len(), |out, place| put_net(out, block, place, turns[place]));
     out.push('}');
+}
+
+/// The letters of the layers, and the limits of both directions; nothing where the job has no `dirs` line.
+fn put_directions(out: &mut String, block: &Block) {
+    let (Some(letters), Some(limits)) = (block.job.letters(), block.limits()) else { return };
+    out.push_str("\"dirs\":");
+    put_list(out, letters, |out, letter| {
+        let _ = write!(out, "\"{letter}\"");
+    });
+    let _ = write!(out, ",\"limits\":[{},{}],", limits.east, limits.north);
 }
 
 /// A net: its vias, turn and score, its pins as 8 × tile + layer - 1, and its edges as 8 × edge + layer - 1.
@@ -100,6 +111,15 @@ mod tests {
         assert_eq!(value["capacity"][1][0], 1);
         // net 1: two vias, second in turn, pins in tiles 0 and 2 on layer 1, edge 0 on layer 2 and edge 1 on layer 1
         assert_eq!(value["nets"][0], serde_json::json!([2, 2, 2500, [0, 16], [1, 8]]));
-        assert!(!out.contains('<'));
+        assert!(!out.contains('<') && value.get("dirs").is_none() && value.get("limits").is_none());
+    }
+
+    #[test]
+    fn directions_are_among_the_numbers() {
+        let mut out = String::new();
+        put_block(&mut out, "directed.job", &crate::figures::directed_example());
+        let value: serde_json::Value = serde_json::from_str(&out).unwrap();
+        assert_eq!(value["dirs"], serde_json::json!(["h", "v", "h"]));
+        assert_eq!(value["limits"], serde_json::json!([1, 0]));
     }
 }

@@ -68,6 +68,10 @@ function netsAtTile(x, y) {
   return [...found].sort((a, b) => a - b);
 }
 
+// Whether a layer carries edges of a way, and its name: by its letter, `h` or `v`, where the job gives directions.
+const carries = (layer, way) => !block.dirs || block.dirs[layer - 1] === (way === 'e' ? 'h' : 'v');
+const layerName = (layer) => (block.dirs ? `Layer ${layer} (${block.dirs[layer - 1]})` : `Layer ${layer}`);
+
 // 0: no track used, 1 to 10: by tenths, -1: overflow, -2: neither tracks nor nets
 function classOf(layer, edge) {
   const [some, all] = [used(layer, edge), capacity(layer, edge)];
@@ -120,7 +124,7 @@ function readAddress() {
     const [layer, x, y] = numbers;
     const way = value.slice(-1);
     if (key === 'net' && layer >= 1 && layer <= NETS) choose({ net: layer });
-    if (key === 'edge' && layer >= 1 && layer <= K && /^[en]$/.test(way) && hasEdge(x, y, way)) {
+    if (key === 'edge' && layer >= 1 && layer <= K && /^[en]$/.test(way) && hasEdge(x, y, way) && carries(layer, way)) {
       choose({ at: { layer, x, y, way }, held: true });
     }
     if (key === 'tile' && layer >= 0 && layer < W && x >= 0 && x < H) choose({ at: { layer: 0, x: layer, y: x, way: '' }, held: true });
@@ -160,7 +164,7 @@ function chips(numbers) {
 
 function edgeWords({ layer, x, y, way }) {
   const { x2, y2 } = ends(edgeNumber(x, y, way));
-  return `Layer ${layer}, ${x},${y} → ${x2},${y2}`;
+  return `${layerName(layer)}, ${x},${y} → ${x2},${y2}`;
 }
 
 function showPlace() {
@@ -234,9 +238,12 @@ function showNet() {
 function showFigures() {
   const [total, maximum] = block.overflow;
   const strong = (number) => element('strong', {}, group(number));
+  const dirs = block.dirs ? ` (${block.dirs.join(',')})` : '';
+  const limits = block.dirs ? `; limit of a layer east ${block.limits[0]}, north ${block.limits[1]}` : '';
+  byId('runs').hidden = !block.dirs;
   byId('figures').append(
-    strong(W), ' × ', strong(H), ' tiles · ', strong(K), ' layers · ', strong(NETS), ' nets · ', strong(block.vias),
-    ' vias · overflow ', strong(total), `, at most ${maximum} on an edge (flat plan ${group(block.flat[0])}, at most ${block.flat[1]})`,
+    strong(W), ' × ', strong(H), ' tiles · ', strong(K), ` layers${dirs} · `, strong(NETS), ' nets · ', strong(block.vias),
+    ' vias · overflow ', strong(total), `, at most ${maximum} on an edge (flat plan ${group(block.flat[0])}, at most ${block.flat[1]}${limits})`,
   );
   for (let step = 0; step <= 10; step += 1) byId('ramp').append(element('i', { style: `background:var(--u${step})` }));
 }
@@ -361,7 +368,7 @@ class LayerMap {
     this.canvas = element('canvas', { tabindex: '0', role: 'application', 'aria-label': this.label() });
     this.base = document.createElement('canvas'); // what does not change with the place or the net
     this.button = element('button', { type: 'button', 'aria-pressed': 'false', onclick: () => this.enlarge() }, 'Enlarge');
-    const title = layer ? `Layer ${layer}` : 'Vias';
+    const title = layer ? layerName(layer) : 'Vias';
     const caption = element('figcaption', {}, element('strong', {}, title), element('span', {}, this.words()), this.button);
     this.figure = element('figure', { 'data-map': String(layer) }, caption, this.canvas);
     this.overflowed = layer ? this.edges().filter((edge) => overflow(layer, edge) > 0) : [];
@@ -385,7 +392,7 @@ class LayerMap {
   }
 
   label() {
-    return this.layer ? `Layer ${this.layer}: ${this.words()}. Arrow keys move from tile to edge.` : 'Vias by tile. Arrow keys move.';
+    return this.layer ? `${layerName(this.layer)}: ${this.words()}. Arrow keys move from tile to edge.` : 'Vias by tile. Arrow keys move.';
   }
 
   enlarge() {
@@ -621,7 +628,7 @@ class LayerMap {
 
   edgeBeside(x, y, dx, dy) {
     const [a, b, way] = Math.abs(dx) >= Math.abs(dy) ? [dx < 0 ? x - 1 : x, y, 'e'] : [x, dy < 0 ? y - 1 : y, 'n'];
-    return hasEdge(a, b, way) ? { layer: this.layer, x: a, y: b, way } : null;
+    return hasEdge(a, b, way) && carries(this.layer, way) ? { layer: this.layer, x: a, y: b, way } : null;
   }
 
   listen() {
@@ -647,9 +654,9 @@ class LayerMap {
     });
   }
 
-  // The same place on this map; the map of vias has tiles only.
+  // The same place on this map: an edge, where it has such edges, or else a tile. The map of vias has tiles only.
   moved(at) {
-    return { ...at, layer: this.layer, way: this.layer ? at.way : '' };
+    return { ...at, layer: this.layer, way: this.layer && carries(this.layer, at.way) ? at.way : '' };
   }
 
   key(event) {
@@ -667,11 +674,12 @@ class LayerMap {
     event.preventDefault();
   }
 
-  // Half a step: from a tile to the edge beside it, from an edge to the tile at its end.
+  // Half a step: from a tile to the edge beside it, from an edge to the tile at its end. Where the map has no such edge,
+  // from tile to tile.
   step(at, dx, dy) {
     const { layer, x, y, way } = at;
-    if (!layer) return { ...at, x: Math.min(Math.max(x + dx, 0), W - 1), y: Math.min(Math.max(y + dy, 0), H - 1) };
-    if (!way) return this.edgeBeside(x, y, dx, dy) || at;
+    const tile = { ...at, x: Math.min(Math.max(x + dx, 0), W - 1), y: Math.min(Math.max(y + dy, 0), H - 1) };
+    if (!way) return (layer && this.edgeBeside(x, y, dx, dy)) || tile;
     const along = way === 'e' ? dx : dy;
     const far = way === 'e' ? { x: x + 1, y } : { x, y: y + 1 };
     if (along) return { layer, ...(along > 0 ? far : { x, y }), way: '' };

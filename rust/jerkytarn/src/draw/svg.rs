@@ -4,7 +4,7 @@
 use super::colour::{class, style, Class, CLASSES};
 use super::escaped;
 use crate::figures::{Block, Place};
-use crate::job::Way;
+use crate::job::{in_brackets, Job, Way};
 use crate::report::grouped;
 use std::fmt::Write;
 
@@ -14,6 +14,8 @@ const SIDE: f64 = 280.0;
 const TILE_MOST: f64 = 36.0;
 /// The smallest side of a panel, so that its title has room.
 const PANEL_LEAST: f64 = 150.0;
+/// What the direction of a layer takes of its title.
+const DIRECTION: f64 = 34.0;
 const GAP: f64 = 28.0;
 const MARGIN: f64 = 24.0;
 const HEADER: f64 = 64.0;
@@ -45,6 +47,8 @@ struct Layout {
     /// The sides of a panel's grid.
     wide: f64,
     high: f64,
+    /// The smallest width that a panel takes.
+    least: f64,
     columns: usize,
     rows: usize,
 }
@@ -59,6 +63,7 @@ impl Layout {
             tile,
             wide: tile * grid.width as f64,
             high: tile * grid.height as f64,
+            least: PANEL_LEAST + if block.job.dirs.is_some() { DIRECTION } else { 0.0 },
             columns,
             rows: panels.div_ceil(columns),
         }
@@ -66,7 +71,7 @@ impl Layout {
 
     /// The sides of a panel with the space beside it.
     fn step(&self) -> (f64, f64) {
-        (self.wide.max(PANEL_LEAST) + GAP, self.high + TITLE + GAP)
+        (self.wide.max(self.least) + GAP, self.high + TITLE + GAP)
     }
 
     fn size(&self) -> (f64, f64) {
@@ -145,7 +150,7 @@ pub fn picture(name: &str, block: &Block) -> String {
         put_layer(&mut out, block, &layout, layer);
     }
     put_vias(&mut out, block, &layout);
-    put_legend(&mut out, height - LEGEND + 8.0);
+    put_legend(&mut out, height - LEGEND + 8.0, block.job.dirs.is_some());
     out.push_str("</svg>\n");
     out
 }
@@ -154,8 +159,9 @@ fn put_header(out: &mut String, name: &str, block: &Block) {
     let job = &block.job;
     let g = |number: usize| grouped(number as u64);
     let (flat, layered) = (block.flat_overflow(), block.layered_overflow());
-    let size =
-        format!("{} × {} tiles, {} layers, {} nets", job.grid.width, job.grid.height, job.layers, g(job.nets.len()));
+    let dirs = in_brackets(job.letters().as_deref());
+    let (width, height) = (job.grid.width, job.grid.height);
+    let size = format!("{width} × {height} tiles, {} layers{dirs}, {} nets", job.layers, g(job.nets.len()));
     let overflow =
         format!("overflow {} (at most {} on an edge; flat {})", g(layered.total), g(layered.maximum), g(flat.total));
     let _ = writeln!(out, "<text class=\"h\" x=\"{MARGIN}\" y=\"38\">{}</text>", escaped(name));
@@ -183,7 +189,13 @@ fn middle(block: &Block, layout: &Layout, tile: crate::job::Tile) -> (f64, f64) 
     (layout.tile * (tile.x as f64 + 0.5), TITLE + layout.tile * (row as f64 + 0.5))
 }
 
-/// A layer: its edges by class, and a mark on each that overflows.
+/// The title of a layer, with its direction where the job gives one.
+fn layer_title(job: &Job, layer: usize) -> String {
+    job.runs(layer).map_or(format!("Layer {layer}"), |runs| format!("Layer {layer} ({})", runs.dir()))
+}
+
+/// A layer: its edges by class, and a mark on each that overflows. Edges that it does not carry have neither tracks nor
+/// nets, and are left out as such.
 fn put_layer(out: &mut String, block: &Block, layout: &Layout, layer: usize) {
     let mut paths = vec![String::new(); CLASSES];
     let (mut over, mut rims, mut marks, mut overflowed) = (String::new(), String::new(), String::new(), 0);
@@ -212,7 +224,7 @@ fn put_layer(out: &mut String, block: &Block, layout: &Layout, layer: usize) {
     } else {
         format!("{} edges overflow", grouped(overflowed as u64))
     };
-    put_panel(out, layout, layer - 1, &format!("Layer {layer}"), if overflowed == 0 { "" } else { &words });
+    put_panel(out, layout, layer - 1, &layer_title(&block.job, layer), if overflowed == 0 { "" } else { &words });
     let stroke = n(layout.stroke());
     for (class, path) in paths.iter().enumerate().filter(|(_, path)| !path.is_empty()) {
         let _ = writeln!(out, "<path class=\"e u{class}\" stroke-width=\"{stroke}\" d=\"{path}\"/>");
@@ -263,7 +275,8 @@ fn put_vias(out: &mut String, block: &Block, layout: &Layout) {
     let _ = writeln!(out, "<path class=\"v\" d=\"{discs}\"/>\n</g>");
 }
 
-fn put_legend(out: &mut String, y: f64) {
+/// What colours and marks mean, and, where layers have directions, what their letters do.
+fn put_legend(out: &mut String, y: f64, directed: bool) {
     let _ = writeln!(out, "<g transform=\"translate({MARGIN} {})\">\n<text y=\"4\">Tracks used</text>", n(y));
     for class in 0..CLASSES {
         let x = 84 + 24 * class;
@@ -276,9 +289,13 @@ fn put_legend(out: &mut String, y: f64) {
         out,
         "<path class=\"e o\" stroke-width=\"8\" d=\"M376 0h26\"/><path class=\"m\" d=\"{}\"/>\n\
          <text x=\"408\" y=\"4\">more nets than tracks</text>\n\
-         <text class=\"f\" x=\"376\" y=\"22\">an edge without tracks and nets is left out</text>\n</g>",
+         <text class=\"f\" x=\"376\" y=\"22\">an edge without tracks and nets is left out</text>",
         diamond(389.0, 0.0, 5.0)
     );
+    if directed {
+        out.push_str("<text class=\"f\" y=\"40\">(h): a layer for east edges only; (v): for north edges only</text>\n");
+    }
+    out.push_str("</g>\n");
 }
 
 #[cfg(test)]
@@ -288,6 +305,24 @@ mod tests {
     #[test]
     fn lengths_have_a_decimal_where_it_says_something() {
         assert_eq!([0.0, 3.0, 3.04, 3.06, -0.3, 12.96].map(n), ["0", "3", "3", "3.1", "-0.3", "13"]);
+    }
+
+    #[test]
+    fn layers_with_directions_are_titled_so() {
+        let drawn = picture("directed.job", &crate::figures::directed_example());
+        for words in
+            [">Layer 1 (h) <", ">Layer 2 (v) <", ">Layer 3 (h) <", "3 layers (h,v,h), 4 nets", "(h): a layer for"]
+        {
+            assert!(drawn.contains(words), "no {words} in\n{drawn}");
+        }
+        // paths of a layer: along x on an `h` layer, along y on a `v` layer
+        let panel = |layer: usize| drawn.split("<g transform").nth(layer).unwrap();
+        let strokes = |layer: usize, turn: char| {
+            let paths = panel(layer).split(" d=\"").skip(1).map(|path| &path[..path.find('"').unwrap()]);
+            paths.map(|path| path.matches(turn).count()).sum::<usize>()
+        };
+        assert_eq!([1, 2, 3].map(|layer| strokes(layer, 'h')), [4, 0, 3]);
+        assert_eq!([1, 2, 3].map(|layer| strokes(layer, 'v')), [0, 3, 0]);
     }
 
     #[test]

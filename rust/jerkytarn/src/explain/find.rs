@@ -2,7 +2,7 @@
 //! here: number and line are the library's, and where nothing fits them, nothing is said beyond the table's row.
 //! Refusal 2 has a module of its own, `form`.
 
-use crate::job::{self, Form, Grid, Job, Kind, Tile, Way};
+use crate::job::{self, Form, Grid, Job, Kind, Tile, Way, DIRS_LINE};
 use crate::visible::shortened;
 use layerplan::Lengths;
 use std::collections::HashMap;
@@ -110,7 +110,7 @@ pub fn range(site: &Site) -> Option<Finding> {
         }),
         Form::Pins => first_entry(site, b';', |place, entry| pin_range(&site.job, place, entry)),
         Form::Edges => first_entry(site, b';', |place, entry| edge_range(site.job.grid, place, entry)),
-        Form::Turn(_) | Form::Nothing => None,
+        Form::Turn(_) | Form::Dirs(_) | Form::Nothing => None,
     }
 }
 
@@ -161,10 +161,11 @@ fn edge_range(grid: Grid, place: usize, entry: &[u8]) -> Option<(String, String)
     let (tile, way) = job::edge(entry)?;
     let told = |(found, expected)| (format!("in edge {} {found}", place + 1), expected);
     let leaving = || {
-        let (name, side) = match way {
-            Way::East => ("east", "last column"),
-            Way::North => ("north", "last row"),
+        let side = match way {
+            Way::East => "last column",
+            Way::North => "last row",
         };
+        let name = way.name();
         let found = format!("the way {name} from tile {} leaves the grid", named(tile));
         let tiles = format!("{} x {} tiles", grid.width, grid.height);
         let expected = format!("both ends inside the {tiles}; no edge goes {name} from the {side}");
@@ -381,6 +382,40 @@ pub fn apart(site: &Site) -> Option<Finding> {
     })
 }
 
+/// 12: the first track on a layer that runs the other way.
+pub fn closed(site: &Site) -> Option<Finding> {
+    let (layer, way) = match site.kind {
+        Kind::East(layer) => (layer, Way::East),
+        Kind::North(layer) => (layer, Way::North),
+        _ => return None,
+    };
+    let runs = site.job.runs(layer).filter(|runs| *runs != way)?.dir();
+    let finding = first_entry(site, b',', |place, entry| {
+        let value = job::number(entry).filter(|value| *value > 0)?;
+        let expected = format!("0: by line {DIRS_LINE} layer {layer} is `{runs}` and carries no {} edges", way.name());
+        Some((capacity_at(site, place, value), expected))
+    })?;
+    let dir = way.dir();
+    let advice = format!("write 0 for each capacity of this line, or `{dir}` for layer {layer} on line {DIRS_LINE}");
+    Some(Finding { advice: Some(advice), ..finding })
+}
+
+/// 13: the first edge whose direction has no layer.
+pub fn without_layer(site: &Site) -> Option<Finding> {
+    let grid = site.job.grid;
+    let letters = job::listed(&site.job.letters()?);
+    let way = |edge: usize| grid.named(edge).1;
+    let stranded = |(_, (edge, _)): &(usize, (usize, Range<usize>))| site.job.layers_for(way(*edge)) == 0;
+    let (place, (edge, at)) = edges_of(site)?.into_iter().enumerate().find(stranded)?;
+    let (name, dir) = (way(edge).name(), way(edge).dir());
+    Some(Finding {
+        at: Some(at),
+        found: format!("edge {}, {}, goes {name}, and no layer is `{dir}`", place + 1, edge_named(grid, edge)),
+        expected: format!("edges that some layer carries: line {DIRS_LINE} has `dirs={letters}`"),
+        advice: Some(format!("take out the edges that go {name}, or write `{dir}` for a layer on line {DIRS_LINE}")),
+    })
+}
+
 /// What a job takes and what was lent, for 9 to 11.
 fn lent_less(what: &str, need: usize, lent: usize) -> Finding {
     Finding {
@@ -392,7 +427,10 @@ fn lent_less(what: &str, need: usize, lent: usize) -> Finding {
 
 /// 9: the working numbers, which the first three lines tell.
 pub fn work(site: &Site, lent: Lengths) -> Option<Finding> {
-    let layers = job::number(site.value()?.0)?;
+    let layers = match site.kind {
+        Kind::Dirs => site.job.layers,
+        _ => job::number(site.value()?.0)?,
+    };
     let need = need(site.job.grid, layers, 0, 0)?;
     Some(lent_less("working numbers", need.work, lent.work))
 }

@@ -1,7 +1,7 @@
 //! Refusal 2 in words: what is wrong with the form of a line.
 
 use super::find::{Finding, Site};
-use crate::job::{self, Form, Kind, KEYS};
+use crate::job::{self, Form, Kind, DIRS_LINE, KEYS};
 use crate::visible::shortened;
 use std::ops::Range;
 
@@ -50,6 +50,9 @@ fn expected(site: &Site) -> String {
             format!("`{key}=` and a number from {} to {}, then a line feed", range.start(), range.end())
         }
         Form::Turn(turn) => format!("`net={turn}`, then a line feed"),
+        Form::Dirs(count) => {
+            format!("`{key}=` with {count} letters `h` or `v`, comma between, one for each layer from the bottom")
+        }
         Form::Numbers(0, _) => format!("`{key}=`{whose} with an empty list, as the grid has no such edges"),
         Form::Numbers(count, range) => {
             let (low, high) = (range.start(), range.end());
@@ -150,13 +153,38 @@ fn wrong_key(site: &Site, line: &[u8]) -> Slip {
         _ if trimmed.eq_ignore_ascii_case(key.as_bytes()) => {
             Slip::new(0..end, format!("the key `{shown}`")).advising(format!("write it in small letters, `{key}`"))
         }
+        _ if trimmed.eq_ignore_ascii_case(b"dirs") => {
+            Slip::new(0..end, format!("the key `{shown}`")).advising(misplaced_dirs(site))
+        }
         _ if KEYS.iter().any(|other| trimmed == other.as_bytes()) => {
             Slip::new(0..end, format!("the key `{shown}`")).advising(out_of_order(site, &shown))
         }
         _ if end == line.len() => Slip::new(0..end, "a line without `=`"),
         _ => Slip::new(0..end, format!("the key `{shown}`"))
-            .advising(format!("a job has no such key; here stands `{key}`")),
+            .advising(format!("a job has no such key; here stands {}", keys_here(site))),
     }
+}
+
+/// The key in turn; where a line may be left out, its key too.
+fn keys_here(site: &Site) -> String {
+    match (site.kind, site.number) {
+        (Kind::Alpha, DIRS_LINE) => "`dirs` or `alpha`".into(),
+        _ => format!("`{}`", site.kind.key()),
+    }
+}
+
+/// The key `dirs` where no such line stands.
+fn misplaced_dirs(site: &Site) -> String {
+    match (site.kind, site.number) {
+        (Kind::Alpha, DIRS_LINE) => "begin the line with `dirs=`, in small letters and without spaces".into(),
+        (Kind::Alpha, _) => "take it out: there is one such line".into(),
+        _ => format!("a `dirs` line stands right after `layers`, as line {DIRS_LINE}, or not at all"),
+    }
+}
+
+/// The keys in their order; one in brackets may be left out.
+fn order_of_keys() -> String {
+    KEYS.map(|key| if key == Kind::Dirs.key() { format!("[{key}]") } else { key.into() }).join(" ")
 }
 
 /// A key of a job, but not the one in turn.
@@ -179,7 +207,7 @@ fn out_of_order(site: &Site, found: &str) -> String {
         (Kind::Edges(_), _) => {
             format!("put a line `{key}` before it, an empty `edges=` where the net has none")
         }
-        _ => format!("put the line `{key}` before it: keys stand in the order {}", KEYS.join(" ")),
+        _ => format!("put the line `{key}` before it: keys stand in the order {}", order_of_keys()),
     }
 }
 
@@ -188,7 +216,12 @@ fn value(site: &Site, line: &[u8]) -> Option<Slip> {
     let start = site.kind.key().len() + 1;
     match site.kind.form(&site.job) {
         Form::Number(_) | Form::Turn(_) => not_a_number(&line[start..]).map(|what| Slip::new(start..line.len(), what)),
-        Form::Numbers(count, _) => capacity_entry(site).or_else(|| list_length(site, count)),
+        Form::Dirs(count) => dir_entry(site)
+            .or_else(|| list_length(site, count, ("letter", "letters"), format!("`layers` ({})", site.job.layers))),
+        Form::Numbers(count, _) => capacity_entry(site).or_else(|| {
+            let (width, height) = (site.job.grid.width, site.job.grid.height);
+            list_length(site, count, ("entry", "entries"), format!("`width` ({width}) or `height` ({height})"))
+        }),
         Form::Pins if line.len() == start => {
             Some(Slip::new(start..start, "no pins").advising("give the net one pin or more"))
         }
@@ -227,25 +260,44 @@ fn capacity_entry(site: &Site) -> Option<Slip> {
     })
 }
 
-/// A list of capacities that is too long or too short.
-fn list_length(site: &Site, count: usize) -> Option<Slip> {
+/// The first entry of `dirs` that is none of its letters.
+fn dir_entry(site: &Site) -> Option<Slip> {
+    site.entries(b',').into_iter().enumerate().find_map(|(place, (entry, at))| {
+        let (what, advice) = not_a_dir(entry)?;
+        Some(Slip { at, found: format!("letter {}: {what}", place + 1), advice })
+    })
+}
+
+/// Why this is neither `h` nor `v`; nothing where it is.
+fn not_a_dir(entry: &[u8]) -> Wrong {
+    if job::dir(entry).is_some() {
+        return None;
+    }
+    let advice = match entry.trim_ascii() {
+        [] => Some("take out the comma too many, or put the letter in"),
+        b"h" | b"v" => Some("take the spaces out"),
+        b"H" | b"V" => Some("write the letters small, `h` or `v`"),
+        [_, _, ..] if entry.iter().all(|byte| b"hvHV; ".contains(byte)) => Some("put a comma between two letters"),
+        b"e" | b"n" => Some("write `h` for a layer of east edges, `v` for one of north edges"),
+        _ => None,
+    };
+    let what =
+        if entry.is_empty() { "missing".into() } else { format!("`{}` is not `h` or `v`", shortened(entry, 24)) };
+    Some((what, advice.map(str::to_string)))
+}
+
+/// A list that is too long or too short; `other` is what else may be wrong then.
+fn list_length(site: &Site, count: usize, (one, many): (&str, &str), other: String) -> Option<Slip> {
     let entries = site.entries(b',');
     let end = site.line?.len();
     let at = match entries.get(count) {
         Some((_, first)) => first.start..end,
         None => end..end,
     };
-    let found = counted(entries.len(), "entry", "entries");
-    let (width, height) = (site.job.grid.width, site.job.grid.height);
+    let found = counted(entries.len(), one, many);
     let advice = match entries.len() > count {
-        true => format!(
-            "take out {} from here on, or correct `width` ({width}) or `height` ({height})",
-            entries.len() - count
-        ),
-        false => format!(
-            "add the {} that are missing, or correct `width` ({width}) or `height` ({height})",
-            count - entries.len()
-        ),
+        true => format!("take out {} from here on, or correct {other}", entries.len() - count),
+        false => format!("add the {} that are missing, or correct {other}", count - entries.len()),
     };
     (entries.len() != count).then(|| Slip::new(at, found).advising(advice))
 }

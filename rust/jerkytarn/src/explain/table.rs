@@ -37,7 +37,8 @@ pub struct Example {
 /// How the order of faults goes, whatever the number.
 pub const ORDER: &str = "A text that is too long is refused before any line is read (1). Then the lines are read from \
     the first to the last, and the first line with a fault decides; on one line the lower number wins. 9 is found right \
-    after the `layers` line, 10 right after the `nets` line, 11 after the whole text.";
+    after the `layers` line, or after the `dirs` line where the job has one, 10 right after the `nets` line, 11 after the \
+    whole text.";
 
 /// An example with a text and enough storage.
 const fn shown(caption: &'static str, text: &'static str, line: u32) -> Example {
@@ -49,7 +50,7 @@ const fn lent(caption: &'static str, lend: &'static str, line: u32) -> Example {
     Example { caption, text: Some(include_str!("examples/whole.job")), lend: Some(lend), line }
 }
 
-pub const RULES: [Rule; 11] = [
+pub const RULES: [Rule; 13] = [
     Rule {
         number: 1,
         title: "the text is too long",
@@ -78,7 +79,7 @@ pub const RULES: [Rule; 11] = [
         line: "the line",
         meaning: "The line is well formed, but a number on it is too small or too large for what it stands for, or an \
             edge has an end outside the grid.",
-        order: "On a line it comes after 2 and before 4 to 8.",
+        order: "On a line it comes after 2 and before 4 to 8, 12 and 13.",
         advice: "Correct the number, or the size of the grid or of the stack that it should fit.",
         example: shown("On line 16 a pin on layer 3 of a stack of two.", include_str!("examples/3.job"), 16),
         find: |case| find::range(&case.site()?),
@@ -108,7 +109,7 @@ pub const RULES: [Rule; 11] = [
         title: "the same edge twice",
         line: "the `edges` line",
         meaning: "A net uses each edge of the grid at most once.",
-        order: "On an `edges` line it comes after 2 and 3 and before 7 and 8.",
+        order: "On an `edges` line it comes after 2 and 3 and before 7, 8 and 13.",
         advice: "Take one of the two out.",
         example: shown("On line 14 the edge 0,0,e stands first and last.", include_str!("examples/6.job"), 14),
         find: |case| find::edge_twice(&case.site()?),
@@ -118,7 +119,7 @@ pub const RULES: [Rule; 11] = [
         title: "the net's edges contain a ring",
         line: "the `edges` line",
         meaning: "The edges of a net must form a tree: from one tile to another there is one way along them.",
-        order: "On an `edges` line it comes after 2, 3 and 6 and before 8.",
+        order: "On an `edges` line it comes after 2, 3 and 6 and before 8 and 13.",
         advice: "Take one edge of the ring out; the others still join all of its tiles.",
         example: shown("Line 14 goes round a square of four tiles.", include_str!("examples/7.job"), 14),
         find: |case| find::ring(&case.site()?),
@@ -129,7 +130,7 @@ pub const RULES: [Rule; 11] = [
         line: "the `edges` line, also where it is a pin that is not joined",
         meaning: "There is no ring, but from the tile of the net's first pin some pin or edge cannot be reached along \
             the edges.",
-        order: "On an `edges` line it comes last, after 2, 3, 6 and 7.",
+        order: "On an `edges` line it comes after 2, 3, 6 and 7 and before 13.",
         advice: "Add the edges that are missing between the parts, or make two nets of them.",
         example: shown("Line 14 goes to tile 1,0, but a pin is in tile 2,0.", include_str!("examples/8.job"), 14),
         find: |case| find::apart(&case.site()?),
@@ -137,11 +138,12 @@ pub const RULES: [Rule; 11] = [
     Rule {
         number: 9,
         title: "too few working numbers were lent",
-        line: "3, the `layers` line",
+        line: "3, the `layers` line; 4, the `dirs` line, where the job has one",
         meaning:
             "A job of W x H tiles and K layers takes 2 x K x E + 2 x E + 32 x W x H working numbers, where E is its \
             number of edges, (W - 1) x H + W x (H - 1); the caller lent fewer.",
-        order: "It is found right after line 3, once that line has passed 2 and 3.",
+        order:
+            "It is found right after that line, once lines 1 to 3 have passed 2 and 3 and a `dirs` line has passed 2.",
         advice:
             "Lend more: `jerkytarn check` tells what a job takes. This command lends enough unless `--lend` says less; \
             the filter of the repository lends 16,384 working numbers.",
@@ -171,6 +173,33 @@ pub const RULES: [Rule; 11] = [
             the filter of the repository lends 65,536 bytes of each.",
         example: lent("The job has three entries, and an answer list of two bytes is lent.", "answer=2", 17),
         find: |case| find::lists(case.text, case.lent),
+    },
+    Rule {
+        number: 12,
+        title: "tracks on a layer that runs the other way",
+        line: "the `east` or `north` line",
+        meaning: "In a job with a `dirs` line, `h` layers carry east edges only and `v` layers north edges only. All \
+            capacities of the edges that a layer does not carry are 0.",
+        order: "On an `east` or `north` line it comes last, after 2 and 3.",
+        advice: "Write 0 for each capacity of the line, or correct the layer's letter on the `dirs` line.",
+        example: shown(
+            "On line 10 a track for an east edge on layer 2, which is `v`.",
+            include_str!("examples/12.job"),
+            10,
+        ),
+        find: |case| find::closed(&case.site()?),
+    },
+    Rule {
+        number: 13,
+        title: "an edge whose direction has no layer",
+        line: "the `edges` line",
+        meaning:
+            "In a job with a `dirs` line, a net has an east edge and no layer is `h`, or a north edge and no layer \
+            is `v`. A layer without tracks is a layer all the same.",
+        order: "On an `edges` line it comes last, after 2, 3, 6, 7 and 8.",
+        advice: "Take the edge out, or give its direction a layer on the `dirs` line.",
+        example: shown("Line 15 goes north, and both layers are `h`.", include_str!("examples/13.job"), 15),
+        find: |case| find::without_layer(&case.site()?),
     },
 ];
 

@@ -3,9 +3,16 @@ use crate::planner::Planner;
 
 const EXAMPLE: &[u8] = include_bytes!("../../../../examples/three-tiles.job");
 
+const DIRECTED: &[u8] = include_bytes!("../../../../examples/directed.job");
+
 /// The example with a line put in the place of another.
 fn with_line(number: usize, line: &str) -> Vec<u8> {
-    let lines = EXAMPLE.split_inclusive(|byte| *byte == b'\n').enumerate();
+    replaced(EXAMPLE, number, line)
+}
+
+/// A text with a line put in the place of another.
+fn replaced(text: &[u8], number: usize, line: &str) -> Vec<u8> {
+    let lines = text.split_inclusive(|byte| *byte == b'\n').enumerate();
     lines.flat_map(|(place, old)| if place + 1 == number { line.as_bytes() } else { old }.to_vec()).collect()
 }
 
@@ -20,6 +27,11 @@ fn refused(text: &[u8]) -> (u32, u32, String) {
 fn expect(text: &[u8], number: u32, line: u32, words: &[&str]) {
     let (got_number, got_line, message) = refused(text);
     assert_eq!((got_number, got_line), (number, line), "{message}");
+    expect_words(&message, number, line, words);
+}
+
+/// That a message tells of this number and line, and has all of these words.
+fn expect_words(message: &str, number: u32, line: u32, words: &[&str]) {
     for word in words {
         assert!(message.contains(word), "no {word:?} in\n{message}");
     }
@@ -132,6 +144,108 @@ fn an_edge_apart_and_a_ring() {
     expect(&job("0,0,e;1,0,e;0,0,n;0,1,e;2,0,n;1,1,e"), 7, 14, &["edge 1,1,e closes a ring with"]);
     let (_, _, message) = refused(&job("2,0,e;0,0,e;0,0,n;0,1,e;1,0,n"));
     assert!(message.contains("edge 1,0,n closes a ring with 0,1,e 0,0,n 0,0,e\n"), "{message}");
+}
+
+/// That the example with directions, with a line put in the place of another, is told so where it gets this number.
+fn expect_directed(number: u32, line: u32, new: &str, words: &[&str]) {
+    let text = replaced(DIRECTED, line as usize, new);
+    let message = message("a.job", &text, Refusal { number, line }, Planner::new().lent());
+    expect_words(&message, number, line, words);
+}
+
+#[test]
+fn lines_of_directions_of_another_form() {
+    expect_directed(
+        2,
+        4,
+        "dirs=\n",
+        &["0 letters", "with 3 letters `h` or `v`, comma between", "correct `layers` (3)"],
+    );
+    expect_directed(2, 4, "dirs=h,v\n", &["2 letters", "add the 1"]);
+    expect_directed(
+        2,
+        4,
+        "dirs=h,v,h,v\n",
+        &["4 letters", "take out 1 from here on", "| dirs=h,v,h,v\n", "|            ^\n"],
+    );
+    expect_directed(2, 4, "dirs=h,v,\n", &["letter 3: missing", "comma too many"]);
+    expect_directed(2, 4, "dirs=h,V,h\n", &["letter 2: `V` is not `h` or `v`", "write the letters small"]);
+    expect_directed(2, 4, "dirs=hv,h\n", &["letter 1: `hv`", "put a comma between two letters"]);
+    expect_directed(2, 4, "dirs=h;v;h\n", &["letter 1: `h;v;h`", "put a comma between two letters"]);
+    expect_directed(2, 4, "dirs=h, v,h\n", &["letter 2: ` v`", "take the spaces out"]);
+    expect_directed(2, 4, "dirs=e,n,e\n", &["letter 1: `e`", "`h` for a layer of east edges"]);
+    expect_directed(2, 4, "dirs=h,x,h\n", &["letter 2: `x` is not `h` or `v`", "      ^"]);
+    expect_directed(2, 4, "dirs=h,v,h\r\n", &["carriage return"]);
+    let unended = message(
+        "a.job",
+        b"width=3\nheight=2\nlayers=3\ndirs=h,v,h",
+        Refusal { number: 2, line: 4 },
+        Lengths::enough(0),
+    );
+    expect_words(&unended, 2, 4, &["not ended by a line feed", "`dirs=` with 3 letters"]);
+}
+
+#[test]
+fn the_key_of_directions_where_it_does_not_stand() {
+    for line in ["Dirs=h,v,h\n", " dirs=h,v,h\n", "dirs =h,v,h\n", "dirs\n"] {
+        expect_directed(
+            2,
+            4,
+            line,
+            &["`alpha=` and a number", "begin the line with `dirs=`, in small letters and without spaces"],
+        );
+    }
+    expect_directed(2, 4, "dir=h,v,h\n", &["the key `dir`", "no such key; here stands `dirs` or `alpha`"]);
+    expect_directed(2, 5, "dirs=h,v,h\n", &["the key `dirs`", "`alpha=`", "there is one such line"]);
+    expect_directed(2, 6, "dirs=h,v,h\n", &["the key `dirs`", "right after `layers`, as line 4, or not at all"]);
+    expect_directed(2, 2, "dirs=h,v,h\n", &["the key `dirs`", "`height=`", "right after `layers`"]);
+    expect_directed(2, 2, "alpha=1\n", &["in the order width height layers", "[dirs] alpha beta"]);
+}
+
+#[test]
+fn lines_behind_directions_have_their_kinds() {
+    expect_directed(3, 10, "east=0,0,0,256\n", &["entry 4 is 256", "from tile 1,1 to tile 2,1 on layer 2"]);
+    expect_directed(2, 14, "east=0,0,0,0\n", &["raise `layers`, which is 3"]);
+    expect_directed(4, 18, "net=3\n", &["the 2nd net"]);
+    expect_directed(8, 17, "edges=0,0,e;1,0,e\n", &["pin 2 of line 16, 2,1,1", "tile 2,0, which is reached"]);
+    let text = [DIRECTED, b"\n"].concat();
+    let after = message("a.job", &text, Refusal { number: 2, line: 27 }, Lengths::enough(0));
+    expect_words(
+        &after,
+        2,
+        27,
+        &["an empty line after the last line", "after line 26: the `nets` line announces 4 nets"],
+    );
+}
+
+#[test]
+fn tracks_and_edges_against_the_directions() {
+    expect_directed(
+        12,
+        10,
+        "east=0,0,7,1\n",
+        &[
+            "entry 3 is 7, for the edge from tile 0,1 to tile 1,1 on layer 2",
+            "0: by line 4 layer 2 is `v` and carries no east edges",
+            "`h` for layer 2 on line 4",
+            "| east=0,0,7,1\n         |          ^\n",
+        ],
+    );
+    expect_directed(12, 13, "north=0,0,255\n", &["entry 3 is 255", "layer 3 is `h` and carries no north edges", "^^^"]);
+    // a line of directions of which none is `v`
+    let text = replaced(DIRECTED, 4, "dirs=h,h,h\n");
+    let told = message("a.job", &text, Refusal { number: 13, line: 17 }, Lengths::enough(0));
+    let words =
+        ["edge 3, 2,0,n, goes north, and no layer is `v`", "line 4 has `dirs=h,h,h`", "`v` for a layer on line 4"];
+    expect_words(&told, 13, 17, &words);
+    expect_words(&told, 13, 17, &["| edges=0,0,e;1,0,e;2,0,n\n         |                   ^^^^^\n"]);
+}
+
+#[test]
+fn working_numbers_are_told_on_the_line_of_directions() {
+    let lent = Lengths { work: 247, ..Lengths::enough(0) };
+    let told = message("a.job", DIRECTED, Refusal { number: 9, line: 4 }, lent);
+    expect_words(&told, 9, 4, &["247 working numbers lent", "248 or more", "4 | dirs=h,v,h"]);
 }
 
 #[test]

@@ -1,6 +1,7 @@
 //! The report as a table for a terminal.
 
 use super::Report;
+use crate::job::{in_brackets, Grid, Way};
 use std::fmt::Write;
 
 /// Columns of a bar.
@@ -87,12 +88,15 @@ pub fn put_block(out: &mut String, report: &Report, style: Style) {
     let Report { flat_overflow: flat, layered_overflow: layered, lengths: need, .. } = report;
     line!(out, "{}: accepted", report.job);
     line!(out, "  tiles             {} ({} {} {})", g(report.tiles), report.width, style.times(), report.height);
-    line!(out, "  layers            {}", report.layers);
-    line!(out, "  edges of a layer  {}", g(report.edges));
+    line!(out, "  layers            {}{}", report.layers, in_brackets(report.dirs.as_deref()));
+    line!(out, "  edges of a layer  {}", edges_of_a_layer(report));
     line!(out, "  nets              {}", g(report.nets));
     line!(out, "  pins              {}, in {} tiles of their nets", g(report.pins), g(report.pin_tiles));
     line!(out, "  edge entries      {}", g(report.entries));
     line!(out, "  flat overflow     total {}, maximum {}", g(flat.total), g(flat.maximum));
+    if let Some(limits) = report.limits {
+        line!(out, "  limit of a layer  east {}, north {}", g(limits.east), g(limits.north));
+    }
     line!(out, "  layered overflow  total {}, maximum {}", g(layered.total), g(layered.maximum));
     line!(out, "  vias              {}", grouped(report.vias));
     let lent = [("work", need.work), ("order", need.order), ("answer", need.answer), ("print", need.print)];
@@ -100,14 +104,30 @@ pub fn put_block(out: &mut String, report: &Report, style: Style) {
     line!(out, "  storage to lend   {lent}");
 }
 
+/// How many edges a layer has: where layers have directions, by these.
+fn edges_of_a_layer(report: &Report) -> String {
+    let grid = Grid { width: report.width, height: report.height };
+    let [h, v] = [Way::East, Way::North].map(Way::dir);
+    match report.dirs {
+        Some(_) => format!("{h} {}, {v} {}", g(grid.east_edges()), g(grid.north_edges())),
+        None => g(report.edges),
+    }
+}
+
 fn put_layers(out: &mut String, report: &Report, style: Style) {
-    line!(out, "\n  layer     tracks       used  {:<BAR$}  share       full  overflowed  overflow", "tracks used");
+    let runs = if report.dirs.is_some() { "  runs" } else { "" };
+    line!(
+        out,
+        "\n  layer{runs}     tracks       used  {:<BAR$}  share       full  overflowed  overflow",
+        "tracks used"
+    );
     for row in &report.by_layer {
+        let runs = row.runs.map_or(String::new(), |runs| format!("{runs:>6}"));
         let bar = style.bar(row.used - row.overflow, row.tracks);
         let over = if row.overflow > 0 { " !" } else { "" };
         line!(
             out,
-            "  {:>5} {:>10} {:>10}  {bar} {:>5.1}% {:>10} {:>11} {:>9}{over}",
+            "  {:>5}{runs} {:>10} {:>10}  {bar} {:>5.1}% {:>10} {:>11} {:>9}{over}",
             row.layer,
             g(row.tracks),
             g(row.used),

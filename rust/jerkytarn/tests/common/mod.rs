@@ -13,6 +13,9 @@ use std::sync::atomic::{AtomicU32, Ordering};
 pub const EXAMPLE: &str = concat!(env!("CARGO_MANIFEST_DIR"), "/../../examples/three-tiles.job");
 pub const EXAMPLE_PLAN: &str = concat!(env!("CARGO_MANIFEST_DIR"), "/../../examples/three-tiles.plan");
 
+pub const DIRECTED: &str = concat!(env!("CARGO_MANIFEST_DIR"), "/../../examples/directed.job");
+pub const DIRECTED_PLAN: &str = concat!(env!("CARGO_MANIFEST_DIR"), "/../../examples/directed.plan");
+
 /// The program.
 pub fn jerkytarn() -> Command {
     let mut command = Command::new(env!("CARGO_BIN_EXE_jerkytarn"));
@@ -111,6 +114,12 @@ pub fn library(job: &[u8]) -> Result<Vec<u8>, String> {
         }
         Err(refusal) => Err(format!("refused={},{}\n", refusal.number, refusal.line)),
     }
+}
+
+/// A text with a line, counted from 1, put in the place of another.
+pub fn with_line(text: &str, number: usize, line: &str) -> String {
+    let lines = text.split_inclusive('\n').enumerate();
+    lines.map(|(place, old)| if place + 1 == number { line } else { old }).collect()
 }
 
 /// A drawn job text.

@@ -1,0 +1,3 @@
+mod Lines
+mod Keys
+mod Going
