@@ -101,8 +101,9 @@ typedef struct layerplan_entry {
 /*
  * Plan: reads the job text and finds the layer of every edge of every net.
  *
- *   text     the job text; only read. Right after `layers` it may have the line `dirs`, a letter for each layer with
- *            commas between: edges to the east then use only layers with `h`, edges to the north only layers with `v`
+ *   text     the job text; only read. Capacities run from 0 to 65,535. Right after `layers` it may have the line `dirs`,
+ *            a letter for each layer with commas between: edges to the east then use only layers with `h`, edges to the
+ *            north only layers with `v`
  *   work     working numbers. What they held is of no account. After every call, refused or not, all work_length of
  *            them are 0
  *   order    the order list: the nets with their scores, in placing order. The bytes between net and score are of no

@@ -1,17 +1,21 @@
-//! The jobs: six families at four sizes, and those that show the growth. Each is made from a fixed seed.
+//! The jobs: seven families at four sizes, those that show the growth, and heads alone. Each is made from a fixed seed.
 //!
 //! From one size to the next the grid's tiles, the bytes of the text and, where it is given, the number of nets grow
 //! fourfold, up to the limits of document 01: 64 × 64 tiles, 8 layers, 4,096 nets, 1,048,576 bytes.
 
+use crate::MOST_CAPACITY;
 use second::gen::Rng;
 
-pub const FAMILIES: [&str; 6] = ["congested", "plenty", "branches", "giant", "short", "directions"];
+pub const FAMILIES: [&str; 7] = ["congested", "plenty", "branches", "giant", "short", "directions", "wide"];
 
 /// The family whose grids, nets and tracks the jobs of `directions` have: the two differ by the `dirs` line alone, and by
 /// the layers that the tracks are on.
 pub const PARTNER: &str = "congested";
 
 pub const SIZES: [usize; 4] = [1, 2, 3, 4];
+
+/// The heads alone, by the least and the most digits of their capacities.
+pub const DIGITS: [(u32, u32); 3] = [(1, 1), (2, 2), (3, 5)];
 
 const LAYERS: usize = 8;
 const MOST_BYTES: usize = 1_048_576;
@@ -126,12 +130,19 @@ fn net(rng: &mut Rng, side: usize, number: usize, mut edges: Vec<Edge>, pins: us
     format!("net={number}\npins={}\nedges={}\n", pins.join(";"), edges.join(";"))
 }
 
-/// The capacities of every layer, to the east and to the north, each from `least` to `most`.
+/// The capacities of every layer, to the east and to the north.
 type Tracks = Vec<[Vec<usize>; 2]>;
 
-fn tracks(rng: &mut Rng, side: usize, least: usize, most: usize) -> Tracks {
-    let mut list = || (0..side * (side - 1)).map(|_| rng.range(least, most)).collect();
+fn tracks(rng: &mut Rng, side: usize, draw: impl Fn(&mut Rng) -> usize) -> Tracks {
+    let mut list = || (0..side * (side - 1)).map(|_| draw(rng)).collect();
     (0..LAYERS).map(|_| [list(), list()]).collect()
+}
+
+/// A capacity of `least` to `most` digits, each number of digits as often as the others.
+fn of_digits(rng: &mut Rng, least: u32, most: u32) -> usize {
+    let digits = least + rng.below((most - least + 1) as usize) as u32;
+    let low = if digits == 1 { 0 } else { 10usize.pow(digits - 1) };
+    rng.range(low, (10usize.pow(digits) - 1).min(MOST_CAPACITY))
 }
 
 /// The same tracks where layers run by turns to the east and to the north. Of each pair of layers, the first has all tracks
@@ -182,23 +193,23 @@ fn parts(family: &str, size: usize) -> (Tracks, String) {
     let rng = &mut Rng::new(1000 * place as u64 + size as u64);
     let side = 4 << size;
     let bytes = MOST_BYTES >> (2 * (4 - size));
-    let (least, most) = match family {
-        "congested" => (0, 2),
-        "plenty" => (30, 99),
-        _ => (0, 9),
-    };
-    let tracks = tracks(rng, side, least, most);
+    let tracks = tracks(rng, side, |rng| match family {
+        "congested" => rng.range(0, 2),
+        "plenty" => rng.range(30, 99),
+        "wide" => of_digits(rng, 3, 5),
+        _ => rng.range(0, 9),
+    });
     let head = head(side, "", &tracks);
     // what `nets` takes at most
     let mut left = bytes - head.len() - "nets=4096\n".len();
     let count = match family {
-        "congested" | "plenty" | "short" => 64 << (2 * (size - 1)),
+        "congested" | "plenty" | "short" | "wide" => 64 << (2 * (size - 1)),
         _ => 4096,
     };
     let mut nets = Vec::new();
     while nets.len() < count {
         let edges = match family {
-            "congested" | "plenty" => {
+            "congested" | "plenty" | "wide" => {
                 // an entry has about 7.2 bytes at the largest size, and what else a net has about 50
                 let share = left.saturating_sub(300) / (count - nets.len());
                 let entry = if size < 3 { 6.2 } else { 7.3 };
@@ -239,11 +250,17 @@ fn parts(family: &str, size: usize) -> (Tracks, String) {
 /// A job on the largest grid with so many nets of so many edges each.
 pub fn growth(nets: usize, edges: usize) -> String {
     let rng = &mut Rng::new(77);
-    let mut text = head(64, "", &tracks(rng, 64, 0, 9)) + &format!("nets={nets}\n");
+    let mut text = head(64, "", &tracks(rng, 64, |rng| rng.range(0, 9))) + &format!("nets={nets}\n");
     for number in 1..=nets {
         let tree = grown(rng, 64, edges, false);
         text += &net(rng, 64, number, tree, 3);
     }
     assert!(text.len() <= MOST_BYTES, "{} bytes", text.len());
     text
+}
+
+/// A job on the largest grid without nets, whose capacities have `least` to `most` digits.
+pub fn capacities(least: u32, most: u32) -> String {
+    let rng = &mut Rng::new(78);
+    head(64, "", &tracks(rng, 64, |rng| of_digits(rng, least, most))) + "nets=0\n"
 }

@@ -1,6 +1,6 @@
 //! The proved planner held against two planners in Rust, on jobs made by fixed seeds.
 //!
-//! - `jobs`: the jobs, in six families at four sizes, and those that show the growth.
+//! - `jobs`: the jobs, in seven families at four sizes, those that show the growth, and heads alone.
 //! - `proved`: the proved planner, from its static library.
 //! - `plain`: the paper's algorithm written plainly.
 //! - `optimised`: a planner written for speed.
@@ -35,6 +35,9 @@ pub struct Lent<'a> {
     pub answer: &'a mut [u8],
     pub print: Option<&'a mut [u8]>,
 }
+
+/// The highest capacity of an edge on one layer.
+const MOST_CAPACITY: usize = 65_535;
 
 /// The keys of lines that a job may have or not (document 02), but for `dirs`.
 const OPTIONAL: [&str; 2] = ["viacost=", "low="];

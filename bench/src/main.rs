@@ -1,7 +1,7 @@
 //! `bench jobs FOLDER`: the job texts, each in a file of its own.
 //! `bench run PLANNER FILE`: the print of a job, or its refusal; where each thing is lent goes to standard error.
-//! `bench run PLANNER FILE HOW`: the same for Plan (`plan`), with an answer list that is one byte too short (`short`), or with a
-//! wrong first byte (`wrong`).
+//! `bench run PLANNER FILE HOW`: the same for Plan (`plan`), with an answer list that is one byte too short (`short`), with a wrong
+//! first byte (`wrong`), or with a wrong first byte on the first `east` line (`east`) or on the `nets` line (`nets`).
 //! `bench times FILE COUNT`: the best of so many times of each planner, in nanoseconds.
 //! `bench stack PLANNER FILE`: how many bytes of stack a call takes.
 //! `bench self SEED COUNT`: draws jobs and damaged texts, and holds each planner to the second planner's answers and buffers.
@@ -14,7 +14,7 @@ use std::process::exit;
 use std::time::Instant;
 
 fn usage() -> ! {
-    eprintln!("bench jobs FOLDER | run PLANNER FILE [plan|short|wrong] | times FILE COUNT | stack PLANNER FILE | self SEED COUNT [PLANNER]");
+    eprintln!("bench jobs FOLDER | run PLANNER FILE [plan|short|wrong|east|nets] | times FILE COUNT | stack PLANNER FILE | self SEED COUNT [PLANNER]");
     exit(2)
 }
 
@@ -43,17 +43,29 @@ fn make(folder: &str) -> std::io::Result<()> {
     for nets in [512, 1024, 2048, 4096] {
         std::fs::write(format!("{folder}/nets-{nets}.job"), jobs::growth(nets, 65536 / nets))?;
     }
+    for (least, most) in jobs::DIGITS {
+        std::fs::write(format!("{folder}/digits-{least}-{most}.job"), jobs::capacities(least, most))?;
+    }
     std::fs::write(format!("{folder}/head.job"), jobs::growth(0, 0))
 }
 
+/// Spoils the first byte of the first line with this key.
+fn spoil(text: &mut [u8], key: &str) {
+    let start = format!("\n{key}=");
+    let line = text.windows(start.len()).position(|bytes| bytes == start.as_bytes());
+    text[line.unwrap_or_else(|| usage()) + 1] = b'x';
+}
+
 /// One call. `how` is empty for Print, `plan` for Plan; `short` lends an answer list that is one byte too short, and `wrong`
-/// spoils the first byte of the text: what is refused after the whole text, and at once.
+/// spoils the first byte of the text: what is refused after the whole text, and at once. `east` and `nets` spoil the line with
+/// which the capacities begin, and the line after them.
 fn run(which: Which, file: &str, how: &str) {
     let mut text = read(file);
     let mut buffers = Buffers::needed(&text);
     match how {
         "short" => drop(buffers.answer.pop()),
         "wrong" => text[0] = b'x',
+        "east" | "nets" => spoil(&mut text, how),
         _ => {}
     }
     let places = [

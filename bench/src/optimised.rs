@@ -5,13 +5,16 @@
 //! An edge has the number 2 × tile, or 2 × tile + 1 for north, which leaves a few numbers unused and takes no division.
 //! Places are not tested where the reading has shown that they are inside; a build with debug assertions tests them all.
 
-use crate::{refused, Lent, Returned};
+use crate::{refused, Lent, Returned, MOST_CAPACITY};
 
 struct Refusal(u64, u64);
 
-/// The tracks left on each of eight layers. Where there are fewer layers, the others are never legal; neither is a layer that
-/// runs the other way.
+/// The tracks left on each of eight layers, of no more than there can be nets: those beyond are never used. Where there are
+/// fewer layers, the others are never legal; neither is a layer that runs the other way.
 type Tracks = [i16; 8];
+
+/// The most nets of a job.
+const MOST_NETS: usize = 4096;
 
 /// The tracks of a layer that is never legal.
 const CLOSED: i16 = i16::MIN;
@@ -242,7 +245,7 @@ impl Reader<'_> {
     fn capacities(&mut self, key: &[u8], w: &mut Work, g: Shape, way: usize, layer: usize) -> Result<(), Refusal> {
         if g.closed[way] >> layer & 1 == 0 {
             return self.list(key, g, way, |edge, value| {
-                of(w.tracks, edge)[layer] = value as i16;
+                of(w.tracks, edge)[layer] = value.min(MOST_NETS) as i16;
                 of(w.flat, edge)[1] += value as u32;
             });
         }
@@ -275,7 +278,7 @@ impl Reader<'_> {
                     return self.refusal(2);
                 }
                 self.at = place + 1;
-                inside &= value <= 255;
+                inside &= value <= MOST_CAPACITY;
                 each(2 * (y * g.width + x) + way, value);
             }
         }
@@ -786,11 +789,11 @@ fn run(text: &[u8], lent: Lent) -> Result<Returned, Refusal> {
         reader.capacities(b"east=", w, g, 0, layer)?;
         reader.capacities(b"north=", w, g, 1, layer)?;
     }
-    let count = reader.ranged(b"nets=", 0, 4096)?;
+    let count = reader.ranged(b"nets=", 0, MOST_NETS)?;
     if order.len() < count {
         return reader.refusal(10);
     }
-    let mut table = [Kept::default(); 4097];
+    let mut table = [Kept::default(); MOST_NETS + 1];
     let mut entries = 0;
     for net in 0..count {
         if reader.number(b"net=")? != net + 1 {

@@ -2,7 +2,7 @@
 //! walked and gets, from the last tile to the first, for each layer above a tile the cheapest of all combinations of its
 //! branches' layers (up to K × K × K of them for each of K layers).
 
-use crate::{refused, Lent, Returned};
+use crate::{refused, Lent, Returned, MOST_CAPACITY};
 use second::plan::Entry;
 
 struct Refusal(u64, u64);
@@ -172,7 +172,7 @@ impl<'a> Reader<'a> {
         let mut inside = true;
         for entry in entries(value, b',') {
             let capacity = number(entry).ok_or(self.refusal(2))?;
-            inside &= capacity <= 255;
+            inside &= capacity <= MOST_CAPACITY;
             into.push(capacity as u32);
         }
         if into.len() != before + count {

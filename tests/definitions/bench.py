@@ -96,8 +96,8 @@ JOBS = [
     ("layers 8", one_tile(8), {}),
     ("layers 1", one_tile(1), (3, 3)),
     ("layers 9", one_tile(9), (3, 3)),
-    ("capacity 255", line_of_tiles(2, "255"), {}),
-    ("capacity 256", line_of_tiles(2, "256"), (3, 7)),
+    ("capacity 65535", line_of_tiles(2, "65535"), {}),
+    ("capacity 65536", line_of_tiles(2, "65536"), (3, 7)),
     ("pin off the edges", square("0,0,e"), (8, 14)),
 ]
 
@@ -118,8 +118,8 @@ FIRST_FAULTS = [
     ("3 before 9", one_tile(9), Lent(0, 0, 0, 0), (3, 3)),
     ("9 before line 4", replaced(b"alpha=1", b"alpha="), Lent(0, 0, 0, 0), (9, 3)),
     ("line 2 before 9", replaced(b"height=1", b"height=0"), Lent(0, 0, 0, 0), (3, 2)),
-    ("list length before range", replaced(b"east=1,1\nnorth=\nnets", b"east=256\nnorth=\nnets"), ROOMY, (2, 9)),
-    ("form before range", replaced(b"east=1,1\nnorth=\nnets", b"east=256,01\nnorth=\nnets"), ROOMY, (2, 9)),
+    ("list length before range", replaced(b"east=1,1\nnorth=\nnets", b"east=65536\nnorth=\nnets"), ROOMY, (2, 9)),
+    ("form before range", replaced(b"east=1,1\nnorth=\nnets", b"east=65536,01\nnorth=\nnets"), ROOMY, (2, 9)),
     ("nets: range before 10", replaced(b"nets=2", b"nets=4097"), Lent(100_000, 0, 0, 0), (3, 11)),
     ("nets: 10 before line 12", replaced(b"nets=2\nnet=1", b"nets=2\nnet=3"), Lent(100_000, 1, 0, 0), (10, 11)),
     ("nets 4096, and their lines are missing", C1[:C1.index(b"nets")] + b"nets=4096\n", ROOMY, (2, 12)),
@@ -187,7 +187,7 @@ DIRECTIONS = [
     ("8 before 13", ONE_WAY.replace(b"pins=0,0,1", b"pins=1,0,1"), ROOMY, (8, 15)),
     ("13 before 11", ONE_WAY, Lent(100_000, 4, 0, 0), (13, 15)),
     ("a track on a layer that runs the other way", directed(C1, b"h,v"), ROOMY, (12, 10)),
-    ("3 before 12", directed(replaced(b"east=1,1\nnorth=\nnets", b"east=1,256\nnorth=\nnets"), b"h,v"), ROOMY, (3, 10)),
+    ("3 before 12", directed(replaced(b"east=1,1\nnorth=\nnets", b"east=1,65536\nnorth=\nnets"), b"h,v"), ROOMY, (3, 10)),
     ("2 before 12", directed(replaced(b"east=1,1\nnorth=\nnets", b"east=1\nnorth=\nnets"), b"h,v"), ROOMY, (2, 10)),
     ("12 before a later line", directed(C1, b"v,h").replace(b"nets=2", b"nets=x"), ROOMY, (12, 8)),
     ("C1 with directions", directed(C1, b"h,h"), PROGRAM_LENT, {"order": [(2, 3000), (1, 2500)], "text": C1_PRINT}),
@@ -200,7 +200,34 @@ DIRECTIONS = [
     ("behind `alpha`", replaced(b"beta=1", b"dirs=h,h\nbeta=1"), ROOMY, (2, 5)),
 ]
 
-BENCH = ([Bench(name, text, PROGRAM_LENT, said) for name, text, said in JOBS]
+
+# ---- S-3 of document 02
+
+def with_tracks(nets, *tracks):
+    """Two tiles in a row with so many tracks on each layer; each net has a pin on layer 1 and the edge between. gamma is 255."""
+    return text_of(header_lines(2, 1, len(tracks), 0, 0, 255, [(each, "") for each in tracks]) + net_lines(*[("0,0,1", "0,0,e")] * nets))
+
+
+def scores(score):
+    """The order list of three nets that score alike."""
+    return [(1, score), (2, score), (3, score)]
+
+
+# Where a capacity, c(e) or C kept only some of its digits, there would be fewer tracks than nets, or another score.
+TRACKS = [
+    ("capacity 256 and none", with_tracks(3, "0", "256"), {"order": scores(2988), "plan": [[2]] * 3, "total": 0}),
+    ("capacity 32768 and none", with_tracks(3, "0", "32768"), {"order": scores(23), "plan": [[2]] * 3, "total": 0}),
+    ("capacity 65535 and none", with_tracks(3, "0", "65535"), {"order": scores(11), "plan": [[2]] * 3, "total": 0}),
+    ("c(e) is 65536", with_tracks(3, "1", "65535"), {"order": scores(11), "plan": [[1], [2], [2]], "total": 0}),
+    ("c(e) is 524280", with_tracks(3, *["65535"] * 8), {"order": scores(1), "plan": [[1]] * 3, "total": 0}),
+    ("capacity 65537", with_tracks(1, "0", "65537"), (3, 9)),
+    ("capacity 99999", with_tracks(1, "99999", "0"), (3, 7)),
+    ("capacity 100000", with_tracks(1, "0", "100000"), (2, 9)),
+    ("65535 on a layer that runs the other way", directed(with_tracks(1, "0", "65535"), b"h,v"), (12, 10)),
+    ("65536 there", directed(with_tracks(1, "0", "65536"), b"h,v"), (3, 10)),
+]
+
+BENCH = ([Bench(name, text, PROGRAM_LENT, said) for name, text, said in JOBS + TRACKS]
          + [Bench(name, text, lent, said) for name, text, lent, said in FIRST_FAULTS + DIRECTIONS])
 
 

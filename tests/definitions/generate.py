@@ -21,6 +21,9 @@ MOST_EDGES = {2: 8, 3: 5, 4: 4, 5: 3, 6: 3, 7: 2, 8: 2}
 RANGES = [("width", 1, 64), ("height", 1, 64), ("layers", 2, 8), ("alpha", 0, 255), ("beta", 0, 255), ("gamma", 0, 255),
           ("nets", 0, 4096)]
 
+# "Capacities run from 0 to 65,535."
+MOST_CAPACITY = 65_535
+
 
 # ---- fixed texts
 
@@ -200,13 +203,28 @@ def random_weight(rng):
     return rng.choice([0, 0, 0, 1, 1, 2, 3, 7, 100, 254, 255, rng.randint(0, 255)])
 
 
+def large_capacity(rng):
+    """A capacity of three to five digits, often one at a limit: what a byte and what two bytes hold."""
+    return rng.choice([255, 256, MOST_CAPACITY - 1, MOST_CAPACITY, rng.randint(100, 999), rng.randint(1_000, 9_999),
+                       rng.randint(10_000, MOST_CAPACITY)])
+
+
+def widen(rng, lists):
+    """Makes some capacities of these lists large. Most edges of a draft still have few tracks on all their layers."""
+    for capacities in lists:
+        capacities[:] = [large_capacity(rng) if rng.random() < 0.15 else tracks for tracks in capacities]
+
+
 def draft_on(rng, width, height, layers, net_count, most):
-    """A job with so many nets on such a grid; its capacities are at most `most`, which is small, so that edges overflow."""
+    """A job with so many nets on such a grid; its capacities are at most `most`, which is small, so that edges overflow. In a
+    third of the jobs some capacities are large."""
     dirs = random_dirs(rng, layers)
     nets = [random_net(rng, width, height, layers, ways_of(dirs)) for _ in range(net_count)]
     draft = Draft(width, height, layers, dirs, [random_weight(rng) for _ in range(3)], nets)
     for capacities in draft.east + draft.north:
         capacities[:] = [rng.randint(0, most) for _ in capacities]
+    if rng.random() < 1 / 3:
+        widen(rng, draft.east + draft.north)
     draft.close()
     return draft
 
@@ -357,7 +375,8 @@ def changed_capacities(rng):
     draft = draft_with(rng, lambda draft: draft.east[0] or draft.north[0])
     capacities = rng.choice([numbers for numbers in draft.east + draft.north if numbers])
     at = rng.randrange(len(capacities))
-    capacities[at:at + 1] = rng.choice([[255], [255], [256], [256], [99_999], [], [0, 0], [""], ["01"], [256, 0]])
+    capacities[at:at + 1] = rng.choice([[MOST_CAPACITY], [MOST_CAPACITY], [MOST_CAPACITY + 1], [MOST_CAPACITY + 1], [99_999], [100_000], [],
+                                        [0, 0], [""], ["01"], [MOST_CAPACITY + 1, 0]])
     return draft.text(), enough(rng, draft)
 
 
@@ -379,8 +398,8 @@ def across(rng):
     """A track on a layer that runs the other way, now and then a number beyond the range or of wrong form behind it."""
     draft = draft_with(rng, lambda draft: any(draft.closed()))
     numbers = rng.choice([numbers for numbers in draft.closed() if numbers])
-    numbers[rng.randrange(len(numbers))] = rng.choice([1, 1, 1, 2, 255, 256])
-    numbers[-1] = rng.choice([numbers[-1]] * 6 + [256, "01"])
+    numbers[rng.randrange(len(numbers))] = rng.choice([1, 1, 1, 2, 256, MOST_CAPACITY, MOST_CAPACITY + 1])
+    numbers[-1] = rng.choice([numbers[-1]] * 6 + [MOST_CAPACITY + 1, "01"])
     return draft.text(), rng.choice([enough(rng, draft), short(rng, draft)])
 
 

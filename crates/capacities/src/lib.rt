@@ -14,7 +14,7 @@ ghost use Rattle.model.specs.Limits.{mostCapacity};
 ghost use Rattle.model.specs.Read.{capacityLines};
 ghost use Rattle.layout.specs.Dirs.{dirsOf};
 ghost use Rattle.layout.specs.Shapes.{Shaped};
-ghost use Rattle.text.specs.Entries.{Short};
+ghost use Rattle.text.specs.Entries.{Brief};
 ghost use Rattle.text.specs.Refusals.{placeOf};
 ghost use Rattle.lines.specs.Keyed.{oneLine};
 ghost use Rattle.lines.specs.Told.{listIn, mapped};
@@ -25,8 +25,8 @@ ghost use Rattle.capacities.specs.Entries.{listAt, listLine, finish};
 ghost use Rattle.capacities.specs.Told.{listTold, answerOf, capacitiesTold, beyondOf};
 ghost use Rattle.capacities.specs.Ran.{Stands, Ran};
 
-// "capacities, comma between, lowest y first, then lowest x, each 0 to 255"
-const MOST_CAPACITY: usize = 255;
+// "Capacities run from 0 to 65,535."
+const MOST_CAPACITY: usize = 65535;
 
 // ---- one line
 
@@ -43,23 +43,23 @@ fn put(w: &mut [u32], to: usize, v: usize, inside: bool) -> bool
     inside
 }
 
-// The places from which three bytes are left are those before this one. It is the same for a whole text, so that a loop over places tests each
+// The places from which six bytes are left are those before this one. It is the same for a whole text, so that a loop over places tests each
 // by one comparison.
-fn short_until(s: &[u8]) -> usize
-    ensures { λ r. ⌜ r ≡ length (now (s .entry)) - 2 ⌝ }
+fn brief_until(s: &[u8]) -> usize
+    ensures { λ r. ⌜ r ≡ length (now (s .entry)) - 5 ⌝ }
 {
-    if s.len() < 2 { 0 } else { s.len() - 2 }
+    if s.len() < 5 { 0 } else { s.len() - 5 }
 }
 
-// The number at `at`, a comma behind it, and the place after that, where it has one or two digits and three bytes are left: the common case,
-// without a loop. Malformed says nothing.
-fn short_comma(s: &[u8], at: usize) -> Numeral
-    ensures { λ r. ⌜ Short (now (s .entry)) at 44 r ⌝ }
+// The number at `at`, a comma behind it, and the place after that, where six bytes are left: the common case, without a loop. Malformed says
+// nothing.
+fn brief_comma(s: &[u8], at: usize) -> Numeral
+    ensures { λ r. ⌜ Brief (now (s .entry)) at 44 r ⌝ }
 {
-    if short_until(s) <= at {
+    if brief_until(s) <= at {
         return Numeral::Malformed;
     }
-    text::short(s, at, 44)
+    text::brief(s, at, 44)
 }
 
 // How far the capacities of a line are read: the place of the next one and where it is stored, how many come before the last, and whether all so far
@@ -71,8 +71,8 @@ struct Run {
     inside: bool,
 }
 
-// The capacities from here on that have one or two digits, up to another or to the last.
-fn short_run(s: &[u8], w: &mut [u32], k: usize, from: Run) -> Run
+// The capacities from here on that are read without a loop, up to another or to the last.
+fn brief_run(s: &[u8], w: &mut [u32], k: usize, from: Run) -> Run
     requires { ⌜ Stands (now s) k (now w) from ⌝ }
     ensures { λ r. ⌜ Ran (now (s .entry)) k (now (w .entry)) from (now (w .exit)) r ⌝ }
 {
@@ -81,7 +81,7 @@ fn short_run(s: &[u8], w: &mut [u32], k: usize, from: Run) -> Run
     let mut left = from.left;
     let mut inside = from.inside;
     while 0 < left {
-        let Numeral::Value(v, next) = short_comma(s, at) else {
+        let Numeral::Value(v, next) = brief_comma(s, at) else {
             return Run {
                 at,
                 to,
@@ -119,8 +119,8 @@ fn answer(at: usize, line: usize, inside: bool) -> Listed
     Listed::Refused(Refusal::Line(Fault::Range, line))
 }
 
-// The capacities of a column, which stand from c on. Behind the last is byte 10, and behind each other a comma. Those of one or two digits are read in
-// runs.
+// The capacities of a column, which stand from c on. Behind the last is byte 10, and behind each other a comma. They are read in runs; those
+// near the end of the text one by one.
 fn entries(s: &[u8], c: Cursor, w: &mut [u32], to: Column) -> Listed
     requires { ⌜ c .at ≤ length (now s) ⌝ }
     requires { ⌜ Room (to .k) (to .first) (to .count) (length (now w)) ⌝ }
@@ -137,7 +137,7 @@ fn entries(s: &[u8], c: Cursor, w: &mut [u32], to: Column) -> Listed
         left: to.count - 1,
         inside: true,
     };
-    let mut r = short_run(s, w, to.k, start);
+    let mut r = brief_run(s, w, to.k, start);
     while 0 < r.left {
         let Numeral::Value(v, next) = lines::ended(s, r.at, 44) else {
             return Listed::Refused(Refusal::Line(Fault::Form, c.line));
@@ -148,7 +148,7 @@ fn entries(s: &[u8], c: Cursor, w: &mut [u32], to: Column) -> Listed
             left: r.left - 1,
             inside: put(w, r.to, v, r.inside),
         };
-        r = short_run(s, w, to.k, more);
+        r = brief_run(s, w, to.k, more);
     }
     let Numeral::Value(v, next) = lines::ended(s, r.at, 10) else {
         return Listed::Refused(Refusal::Line(Fault::Form, c.line));

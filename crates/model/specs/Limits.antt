@@ -20,9 +20,9 @@ mostLayers = 8
 abbrev pub mostWeight : ℕ
 mostWeight = 255
 
--- "capacities, comma between, lowest y first, then lowest x, each 0 to 255"
+-- Document 02, S-3: "Capacities run from 0 to 65,535."
 abbrev pub mostCapacity : ℕ
-mostCapacity = 255
+mostCapacity = 65_535
 
 -- "nets: N, 0 to 4,096"
 abbrev pub mostNets : ℕ

@@ -3,9 +3,10 @@
 use mathlib.Core.Bool.{Bool, true, false, _&&_, cond}
 use mathlib.Core.List.{List, [], _∷_}
 use mathlib.Core.Path.{_≡_}
-use Prim.Native.Nat.{ℕ, _+_, _≤_}
+use Prim.Native.Nat.{ℕ, _+_, _-_, _*_, _≤_}
 use lib.Dec.{eqb}
 use lib.ListN.{length, getD}
+use Rattle.model.specs.Text.{isDigit}
 use Rattle.text.specs.Number.{numberAt}
 use Rattle.text.specs.declared.Entry.{Entry}
 use Rattle.text.specs.declared.Entry.the-variants.{More, Last, Bad}
@@ -30,10 +31,25 @@ module _ {A : Type 0} where
 unfoldable pub endedAt : List ℕ → ℕ → ℕ → Numeral
 endedAt s at end = onNumber (numberAt s at) (λ v next. cond (eqb (getD s next 0) end) (Value v (next + 1)) Malformed) Malformed
 
--- what was found is such a number, of at most two digits
+-- what was found is such a number
+abbrev pub Brief : List ℕ → ℕ → ℕ → Numeral → Type 0
+Brief s at end (Value v next) = endedAt s at end ≡ Value v next
+Brief s at end Malformed = Unit {0}
+
+-- and has at most two digits
 abbrev pub Short : List ℕ → ℕ → ℕ → Numeral → Type 0
 Short s at end (Value v next) = (endedAt s at end ≡ Value v next) × (next ≤ at + 3)
 Short s at end Malformed = Unit {0}
+
+-- three digits stand at `at`, the first of them not 0, and spell u
+abbrev pub ThreeDigits : List ℕ → ℕ → ℕ → Type 0
+ThreeDigits s at u = (isDigit (getD s at 0) ≡ true) × (eqb (getD s at 0) 48 ≡ false) × (isDigit (getD s (at + 1) 0) ≡ true) × (isDigit (getD s (at + 2) 0) ≡ true)
+    × (u ≡ 10 * (10 * (getD s at 0 - 48) + (getD s (at + 1) 0 - 48)) + (getD s (at + 2) 0 - 48)) × (u ≤ 22977)
+
+-- what was found are such digits
+abbrev pub Three : List ℕ → ℕ → Numeral → Type 0
+Three s at (Value u next) = ThreeDigits s at u × (next ≡ at + 3)
+Three s at Malformed = Unit {0}
 
 -- a number and a comma
 unfoldable pub commaAt : List ℕ → ℕ → Numeral

@@ -6,7 +6,7 @@ ghost use lib.ListN.{length, drop};
 ghost use lib.Seq.{slice};
 ghost use Rattle.model.specs.Text.{isDigit, valueFrom};
 ghost use Rattle.text.specs.Number.{digitRun, numberAt};
-ghost use Rattle.text.specs.Entries.{startsWith, commaAt, Short, Paired, broken, wayAt, pinEntryAt, edgeEntryAt, Told};
+ghost use Rattle.text.specs.Entries.{startsWith, commaAt, Short, ThreeDigits, Three, Brief, Paired, broken, wayAt, pinEntryAt, edgeEntryAt, Told};
 ghost use Rattle.text.specs.Items.{entryOf};
 ghost use Rattle.text.specs.Refusals.{faultNumber, numberOf, lineOf};
 
@@ -98,7 +98,7 @@ fn digit_value(b: u8) -> usize
 // What two digits spell: 528 is 10 × 48 + 48.
 fn two_digits(a: u8, b: u8) -> usize
     requires { ⌜ (48 ≤ a) × (48 ≤ b) ⌝ }
-    ensures { λ r. ⌜ r ≡ 10 * (a - 48) + (b - 48) ⌝ }
+    ensures { λ r. ⌜ (r ≡ 10 * (a - 48) + (b - 48)) × (r ≤ 2277) ⌝ }
 {
     10 * (a as usize) + (b as usize) - 528
 }
@@ -196,6 +196,87 @@ pub fn short(s: &[u8], at: usize, end: u8) -> Numeral
     }
     let v = two_digits(a, b);
     Numeral::Value(v, at + 3)
+}
+
+// What three digits spell: 5,328 is 111 × 48.
+fn three_digits(a: u8, b: u8, c: u8) -> usize
+    requires { ⌜ (48 ≤ a) × (48 ≤ b) × (48 ≤ c) ⌝ }
+    ensures { λ r. ⌜ (r ≡ 10 * (10 * (a - 48) + (b - 48)) + (c - 48)) × (r ≤ 22977) ⌝ }
+{
+    100 * (a as usize) + 10 * (b as usize) + (c as usize) - 5328
+}
+
+// What the three bytes at `at` spell, where they are digits and the first is not 0, and the place after them.
+fn three_at(s: &[u8], at: usize) -> Numeral
+    requires { ⌜ at + 6 ≤ length (now s) ⌝ }
+    ensures { λ r. ⌜ Three (now (s .entry)) at r ⌝ }
+{
+    let a = s[at];
+    if !is_digit(a) {
+        return Numeral::Malformed;
+    }
+    if a == 48 {
+        return Numeral::Malformed;
+    }
+    let b = s[at + 1];
+    if !is_digit(b) {
+        return Numeral::Malformed;
+    }
+    let c = s[at + 2];
+    if !is_digit(c) {
+        return Numeral::Malformed;
+    }
+    let v = three_digits(a, b, c);
+    Numeral::Value(v, at + 3)
+}
+
+// A number whose first three digits stand at `at` and spell u, where one or two more follow and then the byte `end`.
+fn rest_of(s: &[u8], at: usize, end: u8, u: usize) -> Numeral
+    requires { ⌜ (at + 6 ≤ length (now s)) × (end < 48) × ThreeDigits (now s) at u ⌝ }
+    ensures { λ r. ⌜ Brief (now (s .entry)) at end r ⌝ }
+{
+    let d = s[at + 3];
+    if !is_digit(d) {
+        return Numeral::Malformed;
+    }
+    let e = s[at + 4];
+    if e == end {
+        return Numeral::Value(10 * u + digit_value(d), at + 5);
+    }
+    if !is_digit(e) {
+        return Numeral::Malformed;
+    }
+    if s[at + 5] != end {
+        return Numeral::Malformed;
+    }
+    Numeral::Value(100 * u + two_digits(d, e), at + 6)
+}
+
+// The number at `at` with the byte `end` behind it, where it has three to five digits. Malformed says nothing.
+fn longer(s: &[u8], at: usize, end: u8) -> Numeral
+    requires { ⌜ (at + 6 ≤ length (now s)) × (end < 48) ⌝ }
+    ensures { λ r. ⌜ Brief (now (s .entry)) at end r ⌝ }
+{
+    match three_at(s, at) {
+        Numeral::Malformed => Numeral::Malformed,
+        Numeral::Value(u, next) => {
+            if s[next] == end {
+                return Numeral::Value(u, next + 1);
+            }
+            rest_of(s, at, end, u)
+        }
+    }
+}
+
+// The same, where it has one to five digits: all that a number can have.
+pub fn brief(s: &[u8], at: usize, end: u8) -> Numeral
+    requires { ⌜ (at + 6 ≤ length (now s)) × (end < 48) ⌝ }
+    ensures { λ r. ⌜ Brief (now (s .entry)) at end r ⌝ }
+{
+    match short(s, at, end) {
+        Numeral::Malformed => longer(s, at, end),
+        Numeral::Value(v, next) => Numeral::Value(v, next),
+    }
 }
 
 // A number and a comma.

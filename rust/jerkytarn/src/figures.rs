@@ -216,7 +216,9 @@ impl Block {
     /// no net uses.
     pub fn most_crowded(&self, count: usize) -> Vec<Place> {
         let mut places: Vec<Place> = self.places().filter(|at| self.used(*at) > 0).collect();
-        let share = |at: &Place| (self.used(*at) * 1_000_000).checked_div(self.capacity(*at)).unwrap_or(usize::MAX);
+        // two shares that differ do so by one part in 65,535 times 65,535 or more, which this does not round away
+        let share =
+            |at: &Place| (self.used(*at) as u64 * (1 << 40)).checked_div(self.capacity(*at) as u64).unwrap_or(u64::MAX);
         places.sort_by_key(|at| (Reverse((self.overflow(*at), share(at), self.used(*at))), at.layer, at.edge));
         places.truncate(count);
         places
@@ -294,6 +296,18 @@ mod tests {
         assert_eq!(block.turns(), [2, 1]);
         assert_eq!(block.flat_overflow(), Overflow::default());
         assert_eq!(block.most_crowded(9).len(), 3);
+    }
+
+    #[test]
+    fn the_fuller_of_two_wide_edges_comes_first() {
+        let text =
+            b"width=3\nheight=1\nlayers=2\nalpha=1\nbeta=0\ngamma=0\neast=65535,65534\nnorth=\neast=0,0\nnorth=\n\
+            nets=1\nnet=1\npins=0,0,1\nedges=0,0,e;1,0,e\n";
+        let totals = Totals { vias: 0, overflow: 0, maximum: 0 };
+        let order = [Entry { net: 1, score: 500 }];
+        let block = of(Planned { totals, order: &order, answer: &[1, 1] }, text).unwrap();
+        let edges: Vec<usize> = block.most_crowded(9).iter().map(|at| at.edge).collect();
+        assert_eq!(edges, [1, 0]);
     }
 
     #[test]

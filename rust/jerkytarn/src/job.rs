@@ -201,6 +201,9 @@ pub const KEYS: [&str; 13] =
 /// The number of the `dirs` line, where there is one.
 pub const DIRS_LINE: usize = 4;
 
+/// The most tracks of an edge on one layer.
+pub const MOST_CAPACITY: usize = 65_535;
+
 impl Kind {
     /// The key before the `=`; none after the last line.
     pub fn key(self) -> &'static str {
@@ -229,8 +232,8 @@ impl Kind {
             Kind::Layers => Form::Number(2..=8),
             Kind::Dirs => Form::Dirs(job.layers),
             Kind::Alpha | Kind::Beta | Kind::Gamma => Form::Number(0..=255),
-            Kind::East(_) => Form::Numbers(job.grid.east_edges(), 0..=255),
-            Kind::North(_) => Form::Numbers(job.grid.north_edges(), 0..=255),
+            Kind::East(_) => Form::Numbers(job.grid.east_edges(), 0..=MOST_CAPACITY),
+            Kind::North(_) => Form::Numbers(job.grid.north_edges(), 0..=MOST_CAPACITY),
             Kind::Nets => Form::Number(0..=4096),
             Kind::Net(turn) => Form::Turn(turn),
             Kind::Pins(_) => Form::Pins,

@@ -249,6 +249,7 @@ fn most_vias(block: &Block, top: usize) -> Vec<Net> {
 #[cfg(test)]
 mod tests {
     use super::*;
+    use crate::job::MOST_CAPACITY;
     use crate::planner::Planner;
 
     fn example() -> Report {
@@ -303,11 +304,54 @@ mod tests {
             "  layers            3 (h,v,h)\n",
             "  edges of a layer  h 4, v 3\n",
             "  flat overflow     total 2, maximum 2\n  limit of a layer  east 1, north 0\n",
-            "\n  layer  runs     tracks       used  tracks used",
-            "\n      2     v          3          1  ########................  33.3%",
+            "\n  layer  runs      tracks       used  tracks used",
+            "\n      2     v           3          1  ########................  33.3%",
         ] {
             assert!(told.contains(words), "no {words:?} in\n{told}");
         }
+    }
+
+    /// The report of the example with directions, with numbers as large as those of a block can be.
+    fn largest() -> Report {
+        let mut report = Report::new("directed.job", &crate::figures::directed_example(), 10);
+        let (edges, nets, entries) = (2 * 63 * 64, layerplan::NETS_MOST, layerplan::TEXT_MOST / 6);
+        for row in &mut report.by_layer {
+            (row.tracks, row.used, row.overflow) = (edges * MOST_CAPACITY, entries, entries);
+            (row.full, row.overflowed) = (edges, edges);
+        }
+        for row in &mut report.most_crowded {
+            (row.from, row.to) = ([62, 63], [63, 63]);
+            (row.capacity, row.used, row.overflow) = (MOST_CAPACITY, nets, nets);
+        }
+        for row in &mut report.vias_by_level {
+            row.vias = 2 * entries;
+        }
+        report
+    }
+
+    /// Where the words of a line end.
+    fn ends(line: &str) -> Vec<usize> {
+        line.split_whitespace().map(|word| word.as_ptr() as usize - line.as_ptr() as usize + word.len()).collect()
+    }
+
+    #[test]
+    fn columns_are_wide_enough_for_the_largest_numbers() {
+        let told = table(&largest(), Style { unicode: false });
+        let rows = |head: &str| {
+            let mut rows = told.lines().skip_while(|line| !line.starts_with(head)).take_while(|line| !line.is_empty());
+            (ends(rows.next().unwrap()), rows.map(ends).collect::<Vec<_>>())
+        };
+        // words of the head and of a row that stand above each other
+        let layers = [(0, 0), (1, 1), (2, 2), (3, 3), (6, 5), (7, 6), (8, 7), (9, 8)];
+        let crowded = [(0, 0), (5, 4), (6, 5), (7, 6)];
+        for (head, pairs) in [("  layer  runs", &layers[..]), ("    layer  from", &crowded), ("  level", &[(1, 3)])] {
+            let (head, rows) = rows(head);
+            assert!(!rows.is_empty());
+            for row in rows {
+                assert!(pairs.iter().all(|(word, number)| head[*word] == row[*number]), "{head:?}, {row:?} in\n{told}");
+            }
+        }
+        assert!(told.contains(" 528,474,240 ") && told.contains(" 65,535 "), "{told}");
     }
 
     #[test]

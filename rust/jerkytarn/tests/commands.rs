@@ -142,6 +142,32 @@ fn report_as_table_and_as_json() {
     assert_eq!(text(&run(["report", &example_of(5)]).stdout), "refused=5,13\n");
 }
 
+/// A job of the largest grid with so many tracks on each edge of two layers, and a net along one edge.
+fn with_tracks(tracks: &str) -> String {
+    let list = vec![tracks; 63 * 64].join(",");
+    let layer = format!("east={list}\nnorth={list}\n");
+    let head = "width=64\nheight=64\nlayers=2\nalpha=1\nbeta=1\ngamma=255\n";
+    format!("{head}{layer}{layer}nets=1\nnet=1\npins=62,63,1\nedges=62,63,e\n")
+}
+
+#[test]
+fn capacities_up_to_65_535() {
+    let told = |command: &str, tracks: &str| text(&run_with(&[command, "-"], with_tracks(tracks).as_bytes()).stdout);
+    let plan = "order=1\nnet=1\nvias=0\nlayers=1\ntotal_vias=0\ntotal_overflow=0\nmax_overflow=0\n";
+    assert_eq!([told("plan", "255"), told("plan", "256"), told("plan", "65535")], [plan; 3]);
+    assert_eq!([told("plan", "65536"), told("plan", "99999")], ["refused=3,7\n"; 2]);
+    assert_eq!(told("plan", "100000"), "refused=2,7\n");
+    let table = told("report", "65535");
+    assert!(table.contains("\n      1 528,474,240          1  "), "{table}");
+    assert!(table.contains("      1    65,535         0\n"), "{table}");
+    let json = run_with(&["report", "--json", "-"], with_tracks("65535").as_bytes()).stdout;
+    let json: serde_json::Value = serde_json::from_slice(&json).unwrap();
+    assert_eq!(
+        (&json["by_layer"][1]["tracks"], &json["most_crowded"][0]["capacity"]),
+        (&528_474_240.into(), &65_535.into())
+    );
+}
+
 #[test]
 fn directions_are_planned() {
     assert_eq!(run(["plan", DIRECTED]).stdout, fs::read(DIRECTED_PLAN).unwrap());
@@ -173,7 +199,7 @@ fn directions_are_told() {
         assert!(told.contains(line), "no {line:?} in\n{told}");
     }
     let table = text(&run(["report", DIRECTED]).stdout);
-    assert!(table.contains("\n  layer  runs     tracks") && table.contains("\n      2     v          3"), "{table}");
+    assert!(table.contains("\n  layer  runs      tracks") && table.contains("\n      2     v           3"), "{table}");
     let json: serde_json::Value = serde_json::from_slice(&run(["report", "--json", DIRECTED]).stdout).unwrap();
     assert_eq!(json["dirs"], serde_json::json!(["h", "v", "h"]));
     assert_eq!(json["limits"], serde_json::json!({ "east": 1, "north": 0 }));
@@ -210,7 +236,8 @@ fn refusals_of_jobs_with_directions() {
     assert_eq!(text(&run_with(&["plan", "-"], b"width=3\nheight=2\nlayers=3\ndirs=h,v,h").stdout), "refused=2,4\n");
     // a capacity line: 2, 3, 12
     expect_directed(2, 10, "east=1,0,0\n", enough, &["3 entries"]);
-    expect_directed(3, 10, "east=1,0,0,256\n", enough, &["entry 4 is 256"]);
+    expect_directed(3, 10, "east=1,0,0,65536\n", enough, &["entry 4 is 65536", "a capacity from 0 to 65535"]);
+    expect_directed(12, 10, "east=0,0,0,65535\n", enough, &["entry 4 is 65535"]);
     expect_directed(12, 10, "east=0,0,7,1\n", enough, &["entry 3 is 7", "layer 2 is `v`", "`h` for layer 2 on line 4"]);
     expect_directed(12, 13, "north=0,0,1\n", enough, &["entry 3 is 1", "layer 3 is `h` and carries no north edges"]);
     // 10 and 11 on lines that have moved

@@ -3,6 +3,7 @@
 
 mod common;
 use common::*;
+use jerkytarn::report::grouped;
 use second::gen::{Damage, Kind};
 use second::job::{read, Job};
 use std::fs;
@@ -102,9 +103,9 @@ fn expect_counts(folder: &Folder, page: &Path, planned: &Planned, layer: u8, edg
     let on = planned.on(layer, edge);
     let capacity = planned.job.capacity[layer as usize - 1][edge];
     assert_eq!(fact(&shown, "edge"), format!("{x},{y},{way}"));
-    assert_eq!(fact(&shown, "capacity"), capacity.to_string());
-    assert_eq!(fact(&shown, "used"), on.len().to_string());
-    assert_eq!(fact(&shown, "overflow"), (on.len() as u64).saturating_sub(capacity).to_string());
+    assert_eq!(fact(&shown, "capacity"), grouped(capacity));
+    assert_eq!(fact(&shown, "used"), grouped(on.len() as u64));
+    assert_eq!(fact(&shown, "overflow"), grouped((on.len() as u64).saturating_sub(capacity)));
     assert_eq!(nets(&shown), on);
     assert_eq!(fact(&shown, "net vias"), planned.vias[net - 1]);
     assert_eq!(fact(&shown, "edges"), planned.job.nets[net - 1].edges.len().to_string());
@@ -177,9 +178,9 @@ const HARNESS: &str = r#"
 </body>"#;
 
 /// Runs these steps in the page of a job, each with what should then be so, and tells what was not.
-fn interaction(job: &str, steps: &str) -> String {
+fn interaction(job: &[u8], steps: &str) -> String {
     let folder = Folder::new();
-    let page = drawn_page(&folder, &fs::read(job).unwrap());
+    let page = drawn_page(&folder, job);
     let harness = HARNESS.replace("STEPS", steps);
     let with_steps = fs::read_to_string(&page).unwrap().replace("</body>", &harness);
     let page = folder.file("keys.html", with_steps.as_bytes());
@@ -241,7 +242,7 @@ const KEYS_AND_POINTER: &str = r#"
 
 #[test]
 fn the_page_answers_to_keys_and_pointer() {
-    assert_eq!(interaction(EXAMPLE, KEYS_AND_POINTER), "as expected");
+    assert_eq!(interaction(&fs::read(EXAMPLE).unwrap(), KEYS_AND_POINTER), "as expected");
 }
 
 /// The page of the example with directions: layers 1 and 3 carry east edges, layer 2 north edges.
@@ -286,7 +287,7 @@ const DIRECTIONS: &str = r#"
 
 #[test]
 fn the_page_knows_directions() {
-    assert_eq!(interaction(DIRECTED, DIRECTIONS), "as expected");
+    assert_eq!(interaction(&fs::read(DIRECTED).unwrap(), DIRECTIONS), "as expected");
 }
 
 #[test]
@@ -294,7 +295,41 @@ fn a_page_without_directions_says_nothing_of_them() {
     let steps = "expect('legend', byId('runs').hidden, true);
         expect('titles', [maps[0].figure, maps[1].figure].map((map) => map.querySelector('strong').textContent), ['Layer 1', 'Layer 2']);
         expect('figures', byId('figures').textContent.includes('limit of a layer'), false);";
-    assert_eq!(interaction(EXAMPLE, steps), "as expected");
+    assert_eq!(interaction(&fs::read(EXAMPLE).unwrap(), steps), "as expected");
+}
+
+/// The page of a row of 64 tiles with eight layers: 65,535 tracks on each edge but the last, which all nets but one use.
+const MANY_TRACKS: &str = r#"
+  const facts = () => Object.fromEntries([...document.querySelectorAll('#place dd')].map((fact) => [fact.dataset.fact, fact.textContent]));
+  choose({ at: { layer: 1, x: 0, y: 0, way: 'e' }, held: true });
+  expect('capacity', [facts().capacity, facts().used, facts()['on all layers']], ['65,535', '1', '1 of 524,280']);
+  choose({ at: { layer: 1, x: 62, y: 0, way: 'e' } });
+  expect('overflow', [facts().capacity, facts().used, facts().overflow, facts()['on all layers']], ['10', '514', '504', '4,095 of 66']);
+  const lines = (selector) => [...document.querySelectorAll(selector)].map((each) => each.offsetHeight < 40);
+  for (const [selector, count] of [['#place dd', 6], ['#crowded button', 8], ['figcaption', 9]]) {
+    expect(`one line each: ${selector}`, lines(selector), Array(count).fill(true));
+  }
+  const wide = [...document.querySelectorAll('body, aside, #crowded, #place, figure')].filter((each) => each.scrollWidth > each.clientWidth);
+  expect('nothing is wider than its place', wide.map((each) => each.id || each.tagName), []);
+  const box = maps[0].canvas.getBoundingClientRect();
+  const point = (x) => {
+    const [left, top] = maps[0].middle(x, 0);
+    maps[0].canvas.dispatchEvent(new PointerEvent('pointermove', { clientX: box.left + left, clientY: box.top + top, bubbles: true }));
+    return byId('tip').textContent;
+  };
+  expect('tip', point(0.5), 'Layer 1, 0,0 → 1,0: 1 of 65,535 used');
+  expect('tip of overflow', point(62.5), 'Layer 1, 62,0 → 63,0: 514 of 10 used, overflow 504 ◆');
+"#;
+
+#[test]
+fn many_tracks_and_nets_keep_to_their_places() {
+    let layer = |last: usize| format!("east={}{last}\nnorth=\n", "65535,".repeat(62));
+    let layers: String = [10, 8, 8, 8, 8, 8, 8, 8].map(layer).concat();
+    let edges = |net: usize| if net == 1 { "0,0,e" } else { "62,0,e" };
+    let pin = |net: usize| if net == 1 { "0,0,1" } else { "63,0,1" };
+    let nets: String = (1..=4096).map(|net| format!("net={net}\npins={}\nedges={}\n", pin(net), edges(net))).collect();
+    let job = format!("width=64\nheight=1\nlayers=8\nalpha=0\nbeta=0\ngamma=255\n{layers}nets=4096\n{nets}");
+    assert_eq!(interaction(job.as_bytes(), MANY_TRACKS), "as expected");
 }
 
 #[test]

@@ -1,8 +1,9 @@
 //! A verified layer assignment for flat wiring plans.
 //!
-//! In: a flat wiring plan as a text, every net a tree over a grid of tiles, with track counts for each layer and, if the
-//! layers have one, the direction in which each runs. Out: the layer of every edge of every net, with as few vias as each
-//! net can have at its turn and exactly the overflow that cannot be avoided; or one numbered [`Refusal`] with its line.
+//! In: a flat wiring plan as a text, every net a tree over a grid of tiles, with track counts for each layer, from 0 to
+//! 65,535, and, if the layers have one, the direction in which each runs. Out: the layer of every edge of every net, with
+//! as few vias as each net can have at its turn and exactly the overflow that cannot be avoided; or one numbered
+//! [`Refusal`] with its line.
 //!
 //! The work is done by a static library whose functions are proved to do what the definitions say, for every text and
 //! all lengths of the lent slices. This crate only lends it safe slices. There is no heap behind it: the caller lends

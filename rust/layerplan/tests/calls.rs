@@ -136,6 +136,17 @@ fn refusals() {
 }
 
 #[test]
+fn capacities() {
+    let told = |tracks: &str| {
+        let text = std::str::from_utf8(JOB).unwrap().replacen("east=1,1", &format!("east=1,{tracks}"), 1);
+        Lent::new(Lengths::enough(text.len())).plan(text.as_bytes())
+    };
+    assert_eq!(["255", "256", "65535"].map(told), [Ok(TOTALS); 3]);
+    assert_eq!(["65536", "99999"].map(told), [Err(Refusal { number: 3, line: 7 }); 2]);
+    assert_eq!(told("100000"), Err(Refusal { number: 2, line: 7 }));
+}
+
+#[test]
 fn lengths() {
     assert_eq!(Lengths::needed(64, 64, 8, 0, 0).work, 276_224);
     assert_eq!(Lengths::enough(usize::MAX), Lengths::enough(TEXT_MOST));

@@ -1,6 +1,7 @@
 //! `compare [SEED] [COUNT]` holds the proved library to the second planner on the jobs of the seeds SEED, SEED + 1 and
 //! so on, each drawn from its seed alone: both calls, what they return, and all that every lent buffer then holds. A
-//! seed that 500 divides gives a job of the largest size. The first difference ends the run, and its seed is told.
+//! seed that 500 divides gives a job of the largest size, and half-way between two of these is one with sums at their
+//! bounds. The first difference ends the run, and its seed is told.
 
 mod library;
 mod walk;
@@ -23,8 +24,9 @@ extern "C" {
 #[derive(Default)]
 struct Run {
     drawn: Summary,
-    /// Largest jobs, all accepted.
+    /// Accepted jobs of the largest size, and with sums at their bounds.
     largest: usize,
+    bounds: usize,
     /// Calls through the Rust wrapper.
     wrapped: usize,
     /// Jobs and nets whose walks were compared.
@@ -34,11 +36,13 @@ struct Run {
 
 /// The job of a seed.
 fn drawn(seed: u64) -> Drawn {
-    if seed % 500 > 0 {
-        return draw(seed, None, None);
-    }
-    let largest = draw(seed, Some(Kind::Largest), Some(Damage::None));
-    Drawn { lent: largest.job.need(), ..largest }
+    let kind = match seed % 500 {
+        0 => Kind::Largest,
+        250 => Kind::Bounds,
+        _ => return draw(seed, None, None),
+    };
+    let whole = draw(seed, Some(kind), Some(Damage::None));
+    Drawn { lent: whole.job.need(), ..whole }
 }
 
 impl Run {
@@ -47,9 +51,6 @@ impl Run {
         let drawn = drawn(seed);
         let Drawn { text, lent, .. } = &drawn;
         self.drawn.add_drawn(&Library, &drawn, seed)?;
-        if drawn.kind == Kind::Largest {
-            self.largest += 1;
-        }
 
         let plan_lent = Lengths { print: None, ..*lent };
         let (planned, printed) = (answer(text, plan_lent), answer(text, *lent));
@@ -62,6 +63,8 @@ impl Run {
         both(&Wrapped, seed + 2, &mut self.wrapped).map_err(|fault| format!("through the wrapper: {fault}"))?;
 
         let Ok(plan) = planned else { return Ok(()) };
+        self.largest += usize::from(drawn.kind == Kind::Largest);
+        self.bounds += usize::from(drawn.kind == Kind::Bounds);
         let job = read(text, plan_lent).map_err(|refusal| format!("{refusal:?} after an accepted call"))?;
         self.walks += walk::walks(text, &job, &plan, seed, second::plan::walk)?;
         self.watched += 1;
@@ -99,7 +102,7 @@ fn main() {
         exit(1);
     }
     print!("{}", run.drawn);
-    println!("jobs of the largest size: {}", run.largest);
+    println!("jobs of the largest size: {}, with sums at their bounds: {}", run.largest, run.bounds);
     println!("calls through the Rust wrapper: {}", run.wrapped);
     println!("walks compared: {} nets of {} jobs", run.walks, run.watched);
     println!("seconds: {}", start.elapsed().as_secs());

@@ -1,6 +1,6 @@
 //! Jobs, damaged texts and lent lengths, each drawn from a seed alone.
 
-use crate::job::{Direction, Grid, Job, Lengths, Net, Pin, Refusal, EAST, TEXT_LIMIT, WEST};
+use crate::job::{Direction, Grid, Job, Lengths, Net, Pin, Refusal, EAST, MOST_CAPACITY, TEXT_LIMIT, WEST};
 use std::collections::BTreeSet;
 
 /// The generator of random numbers (splitmix64).
@@ -64,11 +64,13 @@ pub enum Kind {
     Short,
     /// A text of exactly as many bytes as are read.
     Full,
-    /// The same with the largest grid, the most layers and the most nets. It is drawn only where it is asked for.
+    /// Sums at their bounds: nets over all tiles, as many as a text holds, with the most tracks, or with none.
+    Bounds,
+    /// A full text with the largest grid, the most layers and the most nets. It is drawn only where it is asked for.
     Largest,
 }
 
-pub const KINDS: [(&str, Kind); 9] = [
+pub const KINDS: [(&str, Kind); 10] = [
     ("tiny", Kind::Tiny),
     ("congested", Kind::Congested),
     ("plenty", Kind::Plenty),
@@ -77,6 +79,7 @@ pub const KINDS: [(&str, Kind); 9] = [
     ("giant", Kind::Giant),
     ("short", Kind::Short),
     ("full", Kind::Full),
+    ("bounds", Kind::Bounds),
     ("largest", Kind::Largest),
 ];
 
@@ -239,8 +242,77 @@ fn closed(job: &Job) -> Vec<(usize, usize)> {
     all.filter(|(layer, edge)| !job.may_use(*edge, *layer as u8)).collect()
 }
 
-/// A valid job of this kind; about half of them have a `dirs` line.
+/// A track count of three to five digits, often one at a limit: what a byte and what two bytes hold.
+fn many_tracks(rng: &mut Rng) -> u64 {
+    match rng.below(4) {
+        0 => rng.pick(&[255, 256, MOST_CAPACITY - 1, MOST_CAPACITY]),
+        1 => rng.range(100, 999) as u64,
+        2 => rng.range(1000, 9999) as u64,
+        _ => rng.range(10_000, MOST_CAPACITY as usize) as u64,
+    }
+}
+
+/// Gives a part of the edges many tracks on about half of their layers. The other edges keep theirs, so that there is
+/// still overflow.
+fn widen(rng: &mut Rng, capacity: &mut [Vec<u64>]) {
+    let part = rng.pick(&[2, 5, 8]);
+    for edge in 0..capacity[0].len() {
+        if !rng.chance(part, 10) {
+            continue;
+        }
+        for layer in capacity.iter_mut() {
+            if rng.chance(1, 2) {
+                layer[edge] = many_tracks(rng);
+            }
+        }
+    }
+}
+
+/// The edges of the first column and of all rows: a tree over all tiles.
+fn all_tiles(grid: Grid) -> Vec<usize> {
+    let wanted = |edge: &usize| {
+        let (tile, east) = grid.named(*edge);
+        east || tile % grid.width == 0
+    };
+    (0..grid.edges()).filter(wanted).collect()
+}
+
+/// A job whose sums are at their bounds: one track count on all layers of all edges, and nets over all tiles, as many as
+/// the text holds, at most 4,096.
+fn bounds(rng: &mut Rng) -> Job {
+    let (width, height, layers, tracks) = match rng.below(3) {
+        // c(e), and C of a net
+        0 => (64, 64, 8, MOST_CAPACITY),
+        // D of a net, its score and TO: where no number has two digits, a text has the most entries
+        1 => (10, 10, 2, 0),
+        // d(e) and o(e): no tracks, as many as there are nets, or on each layer one less
+        _ => (2, 1, 8, rng.pick(&[0, 511, 512])),
+    };
+    let grid = Grid { width, height };
+    let capacity = vec![vec![tracks; grid.edges()]; layers];
+    let (alpha, beta, gamma) = (rng.pick(&[0, 255]), rng.pick(&[0, 255]), 255);
+    let mut job = Job { grid, layers, dirs: None, alpha, beta, gamma, capacity, nets: Vec::new() };
+    let mut length = write(&job).len() + "4096".len();
+    while job.nets.len() < 4096 {
+        let mut edges = all_tiles(grid);
+        rng.shuffle(&mut edges);
+        let net = Net { pins: pins(rng, &[0], layers, 1), edges };
+        let mut lines = Vec::new();
+        write_net(&mut lines, grid, job.nets.len() + 1, &net);
+        length += lines.len();
+        if length > TEXT_LIMIT {
+            break;
+        }
+        job.nets.push(net);
+    }
+    job
+}
+
+/// A valid job of this kind; about half of them have a `dirs` line, but for those at the bounds.
 pub fn job(rng: &mut Rng, kind: Kind) -> Job {
+    if kind == Kind::Bounds {
+        return bounds(rng);
+    }
     let side = |rng: &mut Rng, low: usize, high: usize| match rng.below(8) {
         0 => low,
         1 => high,
@@ -256,7 +328,7 @@ pub fn job(rng: &mut Rng, kind: Kind) -> Job {
         Kind::Giant => (16, 64),
         Kind::Short => (2, 64),
         Kind::Full => (40, 64),
-        Kind::Largest => (64, 64),
+        _ => (64, 64),
     };
     let (mut width, mut height) = (side(rng, low, high), side(rng, low, high));
     if kind == Kind::Thin {
@@ -289,11 +361,14 @@ pub fn job(rng: &mut Rng, kind: Kind) -> Job {
     };
     let zeros = rng.pick(&[0, 1, 4, 7]);
     let least = if kind == Kind::Plenty { tracks / 2 } else { 0 };
-    let mut capacity = Vec::new();
+    let mut capacity: Vec<Vec<u64>> = Vec::new();
     for _ in 0..layers {
         let empty = kind != Kind::Plenty && rng.chance(1, 8); // a layer without tracks
         let mut draw = || if empty || rng.chance(zeros, 10) { 0 } else { rng.range(least, tracks) as u64 };
         capacity.push((0..grid.edges()).map(|_| draw()).collect());
+    }
+    if rng.chance(1, 3) {
+        widen(rng, &mut capacity);
     }
 
     let mut job = Job { grid, layers, dirs, alpha, beta, gamma, capacity, nets: Vec::new() };
@@ -307,7 +382,7 @@ pub fn job(rng: &mut Rng, kind: Kind) -> Job {
         Kind::Thin => rng.pick(&[0, 0, 1, 2, 50, 4096]),
         Kind::Giant => rng.range(1, 8),
         Kind::Short => rng.pick(&[500, 1000, 3000, 4095, 4096]),
-        Kind::Full | Kind::Largest => 4096,
+        _ => 4096,
     };
     let mut left = if full { TEXT_LIMIT - write(&job).len() - 3 } else { TEXT_LIMIT };
     let short = kind == Kind::Full && rng.chance(1, 2); // many short nets fill the text, else fewer long ones
@@ -336,7 +411,7 @@ pub fn job(rng: &mut Rng, kind: Kind) -> Job {
             Kind::Full if short => rng.range(20, 60).min(room - 4),
             Kind::Full => rng.range(1, grid.tiles()).min(room - 4),
             // an edge and its part of the pins take about ten bytes, and each net has its share of what is left
-            Kind::Largest => rng.range(0, left / (nets - job.nets.len()) / 6).min(room - 4),
+            _ => rng.range(0, left / (nets - job.nets.len()) / 6).min(room - 4),
         };
         let growth = match kind {
             Kind::Tiny if crosses => Growth::Bush,
@@ -357,14 +432,14 @@ pub fn job(rng: &mut Rng, kind: Kind) -> Job {
     job
 }
 
-/// Lengthens the text to exactly the limit, where the track counts can: each of one digit takes up to two more.
+/// Lengthens the text to exactly the limit, where the track counts can: each of one digit takes up to four more.
 fn fill(job: &mut Job) {
     let mut missing = TEXT_LIMIT - write(job).len();
     for layer in 1..=job.layers {
         for edge in 0..job.grid.edges() {
             if job.may_use(edge, layer as u8) && job.capacity[layer - 1][edge] <= 9 {
-                let more = missing.min(2);
-                job.capacity[layer - 1][edge] += [0, 10, 100][more];
+                let more = missing.min(4);
+                job.capacity[layer - 1][edge] += [0, 10, 100, 1000, 10_000][more];
                 missing -= more;
             }
         }
@@ -437,8 +512,10 @@ pub enum Damage {
     Swap,
     /// A zero before the first number of a line.
     Zero,
-    /// A number one beyond its limit.
+    /// A number beyond its limit, mostly by one.
     Limit,
+    /// A number of six digits.
+    Digits,
     /// A net number out of turn.
     Turn,
     /// The number of nets one too high or too low.
@@ -463,7 +540,7 @@ pub enum Damage {
     Random,
 }
 
-pub const DAMAGES: [(&str, Damage); 21] = [
+pub const DAMAGES: [(&str, Damage); 22] = [
     ("none", Damage::None),
     ("cut", Damage::Cut),
     ("flip", Damage::Flip),
@@ -474,6 +551,7 @@ pub const DAMAGES: [(&str, Damage); 21] = [
     ("swap", Damage::Swap),
     ("zero", Damage::Zero),
     ("limit", Damage::Limit),
+    ("digits", Damage::Digits),
     ("turn", Damage::Turn),
     ("count", Damage::Count),
     ("pin-twice", Damage::PinTwice),
@@ -589,13 +667,21 @@ fn damaged(rng: &mut Rng, job: &Job, damage: Damage) -> (Vec<u8>, Known) {
                 return (lines.concat(), Known::Refused(3, line));
             }
         }
+        Damage::Digits => {
+            let numbers = numbers(&lines[line]);
+            if !numbers.is_empty() {
+                let (from, to) = rng.pick(&numbers);
+                lines[line].splice(from..to, rng.pick(&["100000", "165535", "999999"]).bytes());
+                return (lines.concat(), Known::Refused(2, line as u32 + 1));
+            }
+        }
         Damage::Dirs => return damaged_dirs(rng, job, lines),
         Damage::Closed => {
             let closed = closed(job);
             if !closed.is_empty() {
                 let (layer, edge) = rng.pick(&closed);
                 let mut job = job.clone();
-                job.capacity[layer - 1][edge] = rng.pick(&[1, 2, 9, 255]);
+                job.capacity[layer - 1][edge] = rng.pick(&[1, 2, 9, 255, 256, MOST_CAPACITY]);
                 return (write(&job), Known::Refused(12, job.capacity_line(layer, grid.direction(edge))));
             }
         }
@@ -717,7 +803,14 @@ fn damaged_dirs(rng: &mut Rng, job: &Job, mut lines: Vec<Vec<u8>>) -> (Vec<u8>, 
     (lines.concat(), known)
 }
 
-/// A line of the job with one number just beyond its limit: the line's number and the line.
+/// Where the numbers of a line begin and end.
+fn numbers(line: &[u8]) -> Vec<(usize, usize)> {
+    let digit = |place: usize| line.get(place).is_some_and(u8::is_ascii_digit);
+    let starts = (0..line.len()).filter(|place| digit(*place) && (*place == 0 || !digit(place - 1)));
+    starts.map(|start| (start, (start..).find(|place| !digit(*place)).unwrap())).collect()
+}
+
+/// A line of the job with one number beyond its limit: the line's number and the line.
 fn beyond_limit(rng: &mut Rng, job: &Job) -> Option<(u32, String)> {
     let Grid { width, height } = job.grid;
     let layers = job.layers;
@@ -740,7 +833,7 @@ fn beyond_limit(rng: &mut Rng, job: &Job) -> Option<(u32, String)> {
             }
             let mut list: Vec<String> = list.iter().map(u64::to_string).collect();
             let place = rng.below(list.len());
-            list[place] = "256".to_string();
+            list[place] = rng.pick(&[MOST_CAPACITY + 1, 99_999]).to_string();
             Some((job.capacity_line(layer, direction), format!("{key}={}\n", list.join(","))))
         }
         _ if job.nets.is_empty() => None,
@@ -798,15 +891,16 @@ pub struct Drawn {
     pub lent: Lengths,
 }
 
-/// Draws from a seed. Without a kind, tiny jobs are the most frequent and full texts the rarest; without a damage,
-/// half of the texts are whole.
+/// Draws from a seed. Without a kind, tiny jobs are the most frequent, full texts and sums at their bounds the rarest;
+/// without a damage, half of the texts are whole.
 pub fn draw(seed: u64, kind: Option<Kind>, damage: Option<Damage>) -> Drawn {
     let mut rng = Rng::new(seed);
     let any = match rng.below(500) {
         0 => Kind::Full,
-        1..=4 => Kind::Short,
-        5..=9 => Kind::Giant,
-        10..=39 => Kind::Thin,
+        1 => Kind::Bounds,
+        2..=5 => Kind::Short,
+        6..=10 => Kind::Giant,
+        11..=39 => Kind::Thin,
         40..=89 => Kind::Branchy,
         90..=119 => Kind::Congested,
         120..=149 => Kind::Plenty,

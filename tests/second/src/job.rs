@@ -6,6 +6,9 @@ use std::ops::RangeInclusive;
 /// The longest text that is read, in bytes.
 pub const TEXT_LIMIT: usize = 1_048_576;
 
+/// The highest track count of an edge on one layer.
+pub const MOST_CAPACITY: u64 = 65_535;
+
 /// The highest number in the table of refusals.
 pub const LAST_REFUSAL: usize = 13;
 
@@ -348,15 +351,16 @@ impl<'a> Reader<'a> {
     /// its layer runs the other way.
     fn capacities(&mut self, key: &str, length: usize, closed: bool) -> Result<Vec<u64>, Refusal> {
         let value = self.value(key)?;
-        let list: Option<Vec<usize>> = entries(value, b',').into_iter().map(number).collect();
+        let tracks = |entry: &[u8]| number(entry).map(|tracks| tracks as u64);
+        let list: Option<Vec<u64>> = entries(value, b',').into_iter().map(tracks).collect();
         let list = self.well_formed(list.filter(|list| list.len() == length))?;
-        if list.iter().any(|tracks| *tracks > 255) {
+        if list.iter().any(|tracks| *tracks > MOST_CAPACITY) {
             return Err(self.refusal(3));
         }
         if closed && list.iter().any(|tracks| *tracks > 0) {
             return Err(self.refusal(12));
         }
-        Ok(list.into_iter().map(|tracks| tracks as u64).collect())
+        Ok(list)
     }
 
     /// A `pins` line: 2, then 3, then 5.

@@ -65,6 +65,8 @@ pub struct Summary {
     pub with_overflow: u64,
     /// Accepted jobs with a `dirs` line.
     pub with_directions: u64,
+    /// Accepted jobs with a track count that no byte holds.
+    pub with_many_tracks: u64,
     pub brute: u64,
     pub layerings: u64,
 }
@@ -73,7 +75,8 @@ impl fmt::Display for Summary {
     fn fmt(&self, out: &mut fmt::Formatter) -> fmt::Result {
         writeln!(out, "jobs={} damaged={} calls={}", self.jobs, self.damaged, self.calls)?;
         write!(out, "accepted={} of_these_with_overflow={}", self.accepted, self.with_overflow)?;
-        writeln!(out, " with_directions={}", self.with_directions)?;
+        write!(out, " with_directions={}", self.with_directions)?;
+        writeln!(out, " with_a_capacity_above_255={}", self.with_many_tracks)?;
         writeln!(out, "nets={} of_these_with_stacked_pins={}", self.nets, self.stacked)?;
         let refused: Vec<String> = (1..=LAST_REFUSAL).map(|n| format!("{n}:{}", self.refused[n])).collect();
         writeln!(out, "refused {}", refused.join(" "))?;
@@ -127,6 +130,7 @@ impl Summary {
             self.accepted += 1;
             self.with_overflow += u64::from(plan.total_overflow > 0);
             self.with_directions += u64::from(job.dirs.is_some());
+            self.with_many_tracks += u64::from(job.capacity.iter().flatten().any(|tracks| *tracks > 255));
             self.full += u64::from(text.len() == crate::job::TEXT_LIMIT);
             self.largest_text = self.largest_text.max(text.len());
             self.most_nets = self.most_nets.max(job.nets.len());

@@ -5,9 +5,9 @@ use second::brute;
 use second::calls::{answer, held, Buffers, Planner, Returned, Second};
 use second::check;
 use second::job::{read, Grid, Lengths, Net, Refusal, TEXT_LIMIT};
-use second::plan::{plan, print, walk, Entry, Plan};
+use second::plan::{flat, plan, print, walk, Entry, Plan};
 
-const AMPLE: Lengths = Lengths { work: 1 << 18, order: 4096, answer: 1 << 17, print: Some(1 << 20) };
+const AMPLE: Lengths = Lengths { work: 1 << 19, order: 4096, answer: 1 << 18, print: Some(1 << 20) };
 
 /// A job text: width, height, layers; alpha, beta, gamma; `east` and `north` of each layer; `pins` and `edges` of each net.
 fn text(size: [usize; 3], weights: [usize; 3], capacities: &[(&str, &str)], nets: &[(&str, &str)]) -> String {
@@ -121,6 +121,82 @@ fn stacked_pins_count_once() {
     assert_eq!(order, [(2, 2000), (3, 2000), (1, 1000)]);
     let c4 = planned(&text([1, 1, 4], [1, 1, 0], &[("", ""); 4], &[("0,0,1;0,0,4", "")]));
     assert_eq!((c4.order[0].score, c4.total_vias), (2000, 3));
+}
+
+/// S-3: two tiles in a row with so many tracks on two layers, and three nets, each with a pin on layer 1.
+fn with_tracks(tracks: [&str; 2]) -> Plan {
+    planned(&text([2, 1, 2], [0, 0, 255], &tracks.map(|tracks| (tracks, "")), &[("0,0,1", "0,0,e"); 3]))
+}
+
+#[test]
+fn track_counts_above_255() {
+    // where a number keeps only a byte, or two, or its sign, there are no tracks; D is 3
+    for (tracks, layer, score) in [
+        (["255", "0"], 1, 3000),
+        (["0", "256"], 2, 2988),
+        (["256", "256"], 1, 1494),
+        (["0", "32768"], 2, 23),
+        (["32768", "32768"], 1, 11),
+        (["0", "65535"], 2, 11),
+        (["1", "65535"], 2, 11),
+        (["65535", "65535"], 1, 5),
+    ] {
+        let plan = with_tracks(tracks);
+        assert_eq!(plan.order.iter().map(|entry| entry.score).collect::<Vec<_>>(), [score; 3], "{tracks:?}");
+        assert_eq!(plan.layers[2], [layer], "{tracks:?}");
+        assert_eq!((plan.total_overflow, plan.max_overflow), (0, 0), "{tracks:?}");
+    }
+    // overflow where the last net finds no track left
+    let full = |tracks: &str, nets: usize| {
+        let plan = planned(&text([2, 1, 2], [0; 3], &[(tracks, ""), ("0", "")], &vec![("0,0,1", "0,0,e"); nets]));
+        (plan.layers.concat().iter().filter(|layer| **layer == 1).count(), plan.total_overflow, plan.max_overflow)
+    };
+    assert_eq!([full("256", 256), full("256", 257), full("300", 303)], [(256, 0, 0), (257, 1, 1), (302, 3, 2)]);
+}
+
+/// The entries of a net over all tiles of a square: the first column, and all rows.
+fn over_all_tiles(side: usize) -> String {
+    let column = (1..side).map(|y| format!("0,{},n", y - 1));
+    let rows = (0..side).flat_map(|y| (1..side).map(move |x| format!("{},{y},e", x - 1)));
+    column.chain(rows).collect::<Vec<_>>().join(";")
+}
+
+#[test]
+fn sums_at_their_bounds() {
+    // S-3: "No sum, score or overflow may lose a digit". The most tracks, and 21 nets, as many as a text holds
+    let (tracks, edges) = (vec!["65535"; 63 * 64].join(","), over_all_tiles(64));
+    let job = text([64, 64, 8], [255; 3], &[(tracks.as_str(), tracks.as_str()); 8], &[("0,0,1", edges.as_str()); 21]);
+    assert!(job.len() <= TEXT_LIMIT && job.len() + edges.len() > TEXT_LIMIT);
+    let read_job = read(job.as_bytes(), AMPLE).unwrap();
+    let capacity = flat(&read_job).capacity;
+    assert!(capacity.iter().all(|tracks| *tracks == 524_280));
+    assert_eq!(read_job.nets[0].edges.iter().map(|edge| capacity[*edge]).sum::<u64>(), 2_146_926_600);
+    let plan = planned(&job);
+    // 255,000 / 4,095 and 255,000 for the pin, and 255,000 × 21 × 4,095 / 2,146,926,600
+    assert!(plan.order.iter().all(|entry| entry.score == 62 + 255_000 + 10));
+    assert_eq!((plan.total_vias, plan.total_overflow), (0, 0));
+
+    // the most entries in a text, all of them over the same 99 edges, without tracks and with one on each layer
+    let edges = over_all_tiles(10);
+    for (tracks, score, overflow) in [("0", 42_689_295_000, 1691u64), ("1", 215_602_500, 1689)] {
+        let lists = vec![tracks; 90].join(",");
+        let lists = [(lists.as_str(), lists.as_str()); 2];
+        let job = text([10, 10, 2], [0, 0, 255], &lists, &vec![("0,0,1", edges.as_str()); 1691]);
+        assert!(job.len() <= TEXT_LIMIT && job.len() + edges.len() > TEXT_LIMIT);
+        let plan = planned(&job);
+        assert!(plan.order.iter().all(|entry| entry.score == score), "{:?}", plan.order[0]);
+        assert_eq!((plan.total_overflow, plan.max_overflow), (99 * overflow, overflow.div_ceil(2)));
+    }
+
+    // the most nets on one edge
+    let edge = |tracks: &str| {
+        let plan = planned(&text([2, 1, 8], [0, 0, 255], &[(tracks, ""); 8], &vec![("0,0,1", "0,0,e"); 4096]));
+        (plan.order[0].score, plan.total_overflow, plan.max_overflow)
+    };
+    assert_eq!(edge("0"), (1_044_480_000, 4096, 512));
+    assert_eq!(edge("511"), (255_499, 8, 1));
+    assert_eq!(edge("512"), (255_000, 0, 0));
+    assert_eq!(edge("65535"), (1992, 0, 0));
 }
 
 /// S-2: two tiles in a row with no tracks on two layers, and so many nets, each with a pin on layer 2 in both tiles.
@@ -237,11 +313,13 @@ fn tracks_across_a_layer() {
     assert_eq!(with([fine[0], ("0,0,0,1", "1,1,1")]), (12, 10));
     assert_eq!(with([("1,1,1,1", "1,0,0"), fine[1]]), (12, 9));
     assert_eq!(with([("1,1,1,1", "0,255,0"), ("1,1,1,1", "1,1,1")]), (12, 9));
+    assert_eq!(with([("1,1,1,1", "0,256,0"), fine[1]]), (12, 9));
+    assert_eq!(with([("1,1,1,1", "0,0,65535"), fine[1]]), (12, 9));
     // form, length and range come first, also behind the tracks
-    assert_eq!(with([("1,1,1,1", "1,0,256"), fine[1]]), (3, 9));
+    assert_eq!(with([("1,1,1,1", "1,0,65536"), fine[1]]), (3, 9));
     assert_eq!(with([("1,1,1,1", "1,0"), fine[1]]), (2, 9));
     assert_eq!(with([("1,1,1,1", "1,0,00"), fine[1]]), (2, 9));
-    assert_eq!(with([("256,1,1,1", "1,0,0"), fine[1]]), (3, 8));
+    assert_eq!(with([("65536,1,1,1", "1,0,0"), fine[1]]), (3, 8));
 }
 
 #[test]
@@ -287,7 +365,8 @@ fn limits() {
     let stack = |layers: usize| refused(&text([1, 1, layers], [1, 1, 1], &vec![("", ""); layers], &[]));
     assert_eq!([1, 2, 8, 9].map(stack), [(3, 3), (0, 0), (0, 0), (3, 3)]);
     let tracks = |tracks: &str| refused(&text([2, 1, 2], [1, 1, 1], &[("0", ""), (tracks, "")], &[]));
-    assert_eq!([tracks("255"), tracks("256")], [(0, 0), (3, 9)]);
+    assert_eq!(["255", "256", "65534", "65535"].map(tracks), [(0, 0); 4]);
+    assert_eq!(["65536", "65537", "99999", "100000"].map(tracks), [(3, 9), (3, 9), (3, 9), (2, 9)]);
     let weight = |weight: usize| refused(&text([1, 1, 2], [weight, 255, 255], &[("", ""); 2], &[]));
     assert_eq!([255, 256].map(weight), [(0, 0), (3, 4)]);
     assert_eq!(refused(&text([2, 1, 2], [1, 1, 1], &[("1", ""); 2], &[("0,0,1;1,0,1", "")])), (8, 14));
@@ -342,10 +421,10 @@ fn on_one_line_the_lower_number_wins() {
     assert_eq!(four("0,0,n;0,1,e;1,1,e;1,1,n;2,1,n"), (0, 0));
 
     let east = |value: &str| refused(&C1.replacen("east=1,1", &format!("east={value}"), 1));
-    for value in ["", "1", "1,1,1", "256,1,1", "256", "256,", "256,x", "1,,1", "1;1"] {
+    for value in ["", "1", "1,1,1", "65536,1,1", "65536", "65536,", "65536,x", "65536,100000", "1,,1", "1;1"] {
         assert_eq!(east(value), (2, 7), "{value}");
     }
-    assert_eq!(east("256,1"), (3, 7));
+    assert_eq!(east("65536,1"), (3, 7));
     assert_eq!(refused(&C1.replacen("north=", "north=0", 1)), (2, 8));
 }
 

@@ -14,12 +14,12 @@ fn a_run() {
     }
     println!("{summary}");
     assert!(summary.refused.iter().all(|count| *count > 0), "every refusal occurs");
-    assert!(summary.brute > 100 && summary.with_directions > 50);
+    assert!(summary.brute > 100 && summary.with_directions > 50 && summary.with_many_tracks > 30);
 }
 
 #[test]
 fn tiny_jobs_by_brute_force() {
-    let (mut with_ties, mut with_overflow, mut three_branches, mut two_limits) = (0, 0, 0, 0);
+    let (mut with_ties, mut with_overflow, mut three_branches, mut two_limits, mut many_tracks) = (0, 0, 0, 0, 0);
     for seed in 0..400 {
         let drawn = draw(seed, Some(Kind::Tiny), Some(Damage::None));
         let lent = drawn.job.need();
@@ -32,10 +32,12 @@ fn tiny_jobs_by_brute_force() {
         three_branches += usize::from(walks.flatten().any(|step| step.branches.len() == 3));
         let limits = second::plan::flat(&drawn.job).limits;
         two_limits += usize::from(limits.east != limits.north && limits.east.min(limits.north) > 0);
+        let above_255 = drawn.job.capacity.iter().flatten().any(|tracks| *tracks > 255);
+        many_tracks += usize::from(above_255 && plan.total_overflow > 0);
     }
     assert!(
-        with_ties > 20 && with_overflow > 100 && three_branches > 20 && two_limits > 10,
-        "{with_ties} {with_overflow} {three_branches} {two_limits}"
+        with_ties > 20 && with_overflow > 100 && three_branches > 20 && two_limits > 10 && many_tracks > 20,
+        "{with_ties} {with_overflow} {three_branches} {two_limits} {many_tracks}"
     );
 }
 

@@ -21,7 +21,7 @@ abbrev μ-loop : tie.MeasureT-loop
 
 -- from the first capacity on, and from the place at hand, the line's answer is the same
 module _ (l : tie.At-loop Inv-loop μ-loop) where
-  abbrev q : tie.After-short-run Inv-loop μ-loop
+  abbrev q : tie.After-brief-run Inv-loop μ-loop
   q = l .before .before .before
 
   abbrev some : tie.Else1 Inv-loop μ-loop
@@ -31,7 +31,7 @@ module _ (l : tie.At-loop Inv-loop μ-loop) where
   z = some .before .before .before .before
 
   so-far : let a = z .args in Ran (a .s .now) (a .to .k) (a .w .now) (start (a .s .now) (a .to .k) (a .w .now) (a .c .at) (a .to .first) (a .to .count) (some .if1 .left)) (l .loop .w) (l .loop .r)
-  so-far = ran-then (z .args .s .now) (z .args .to .k) (q .short-run .ensures) (l .loop .inv)
+  so-far = ran-then (z .args .s .now) (z .args .to .k) (q .brief-run .ensures) (l .loop .inv)
 
   same-answer : let a = z .args in finish (a .to .k) (a .c .line) true (a .w .now) (a .to .first) (listAt (a .to .count) (a .s .now) (a .c .at)) ≡ onward (a .to .k) (a .c .line) (a .s .now) (l .loop .w) (l .loop .r)
   same-answer =
@@ -84,7 +84,7 @@ loop-again c =
     let p = r .before .before .before .before in
     let l = p .before .before .before .before .before .before .before .before .before .before .before in
     let a = z l .args in
-    ran-then (a .s .now) (a .to .k) (l .loop .inv) (ran-then (a .s .now) (a .to .k) (one p) (r .short-run2 .ensures))
+    ran-then (a .s .now) (a .to .k) (l .loop .inv) (ran-then (a .s .now) (a .to .k) (one p) (r .brief-run2 .ensures))
 
 returns-3 : tie.Need-returns-3 Inv-loop μ-loop
 returns-3 c =
@@ -135,14 +135,14 @@ entries-spec =
     start-stands (x .args .s .now) (x .args .to .k) (x .args .w .now) (x .args .c .at) (x .args .to .first) (x .args .to .count) (c .before .before .if1 .left) (x .pre .0) (x .pre .1))
     (λ c. let q = c .before .before in
     let a = q .before .before .before .before .before .before .before .args in
-    ran-start (a .s .now) (a .to .k) (q .short-run .ensures .stands))
+    ran-start (a .s .now) (a .to .k) (q .brief-run .ensures .stands))
     (λ c κs. omega arith) (λ c. search needs) (λ c. search needs)
     (λ c. so-far (c .before .before .before .before .before) .long)
     returns-2 add-to
     (λ c. omega (arith, c .before .before .before .before .before .before .before .if2 .taken))
     put-requires
     (λ c κs. one (c .before .before .before) .stands)
-    (λ c. omega (arith, c .before .before .short-run2 .ensures .fewer, c .before .before .before .before .before .before .before .before .before .before .before .before .before .before .before .if2 .taken))
+    (λ c. omega (arith, c .before .before .brief-run2 .ensures .fewer, c .before .before .before .before .before .before .before .before .before .before .before .before .before .before .before .if2 .taken))
     loop-again
     (λ c κs. omega arith) (λ c. search needs) (λ c. search needs)
     (λ c. so-far (c .before .before .before .before .before) .long)

@@ -4,6 +4,7 @@ use mathlib.Core.Path.{sym}
 use borrow.Author.Tests.{le-leb, lt-leb}
 use Rattle.capacities.proofs.Steps.{and-true, and-false}
 use borrow.Author.Needs.{needs}
+use Rattle.model.specs.Limits.{mostCapacity}
 use Rattle.capacities.proofs.put.Statement.{statement}
 use Rattle.capacities.proofs.put.Tie as tie
 
@@ -12,7 +13,7 @@ put-spec =
     tie.close
     (tie.spec
     (λ c. let v = c .before .args .v in
-    (rw (lt-leb v 255 (c .if1 .taken)) (sym (and-false (c .before .args .inside))), rw (lt-leb v 255 (c .if1 .taken))))
+    (rw (lt-leb v mostCapacity (c .if1 .taken)) (sym (and-false (c .before .args .inside))), rw (lt-leb v mostCapacity (c .if1 .taken))))
     (λ c. search needs) (λ c. search needs) (λ c. search needs) (λ c. search needs)
     (λ c. let v = c .before .args .v in
-    (rw (le-leb v 255 (c .if1 .left)) (sym (and-true (c .before .args .inside))), rw (le-leb v 255 (c .if1 .left)))))
+    (rw (le-leb v mostCapacity (c .if1 .left)) (sym (and-true (c .before .args .inside))), rw (le-leb v mostCapacity (c .if1 .left)))))

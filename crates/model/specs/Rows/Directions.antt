@@ -99,9 +99,9 @@ abbrev pub twelveRows : List (Row (ℕ × ℕ))
 twelveRows =
     (at 9 "north=0,0,1" gives (12, 9)) ∷ (at 9 "north=1,0,0" gives (12, 9)) ∷ (at 10 "east=0,0,0,255" gives (12, 10)) ∷ (at 10 "east=7,0,0,0" gives (12, 10))
     -- 2 and 3 are found before it, whatever stands first on the line
-    ∷ (upTo 9 "north=1,1" gives (2, 9)) ∷ (upTo 9 "north=1,x,1" gives (2, 9)) ∷ (upTo 9 "north=1,0,256" gives (3, 9)) ∷ (upTo 10 "east=1,1,1,300" gives (3, 10))
+    ∷ (upTo 9 "north=1,1" gives (2, 9)) ∷ (upTo 9 "north=1,x,1" gives (2, 9)) ∷ (upTo 9 "north=1,0,65536" gives (3, 9)) ∷ (upTo 10 "east=1,1,1,70000" gives (3, 10))
     -- the line before decides
-    ∷ (verdict enough (textOf (set (set directed 8 "north=0,1,0") 9 "east=0,0,0,256")) gives (12, 9))
+    ∷ (verdict enough (textOf (set (set directed 8 "north=0,1,0") 9 "east=0,0,0,65536")) gives (12, 9))
     -- on a layer that runs the edges' way any capacity will do
     ∷ (at 8 "east=0,255,0,7" gives (0, 0)) ∷ (at 11 "north=255,0,9" gives (0, 0))
     -- the other way round

@@ -154,19 +154,20 @@ acceptedRows =
 abbrev four : String → ℕ × ℕ
 four = on 6 (capacityLine "east" 4 true)
 
--- "exactly (W − 1) × H capacities, comma between", "each 0 to 255"; form and list length before range
+-- "exactly (W − 1) × H capacities, comma between"; document 02, S-3: "Capacities run from 0 to 65,535"; form and list length before range
 abbrev pub capacityRows : List (Row (ℕ × ℕ))
 capacityRows =
-    (four "east=0,1,2,255" gives (0, 7)) ∷ (four "east=1,1,1,256" gives (3, 7)) ∷ (four "east=256,1,1,1" gives (3, 7)) ∷ (four "east=1,1,1,99999" gives (3, 7))
+    (four "east=0,1,2,65535" gives (0, 7)) ∷ (four "east=1,1,1,65536" gives (3, 7)) ∷ (four "east=65536,1,1,1" gives (3, 7)) ∷ (four "east=1,1,1,99999" gives (3, 7))
+    ∷ (four "east=255,256,999,1000" gives (0, 7)) ∷ (four "east=9999,10000,65534,65535" gives (0, 7)) ∷ (four "east=65537,1,1,1" gives (3, 7))
     ∷ (four "east=1,1,1" gives (2, 7)) ∷ (four "east=1,1,1,1,1" gives (2, 7)) ∷ (four "east=" gives (2, 7)) ∷ (four "east=1,1,1,1," gives (2, 7))
     ∷ (four "east=,1,1,1" gives (2, 7)) ∷ (four "east=1,,1,1" gives (2, 7)) ∷ (four "east=1;1;1;1" gives (2, 7)) ∷ (four "east=1,1,1,01" gives (2, 7))
     ∷ (four "east=1,1,1,100000" gives (2, 7)) ∷ (four "east=1, 1,1,1" gives (2, 7)) ∷ (four "north=1,1,1,1" gives (2, 7))
-    ∷ (four "east=256,1,1" gives (2, 7)) ∷ (four "east=256,1,1,x" gives (2, 7))
+    ∷ (four "east=65536,1,1" gives (2, 7)) ∷ (four "east=65536,1,1,x" gives (2, 7))
     -- "for each layer, from 1 (the bottom) up, `east` and `north`": (W − 1) × H and W × (H − 1) of them
-    ∷ (at 7 "east=0,1,2,255" gives (0, 0)) ∷ (upTo 7 "east=1,1,1,256" gives (3, 7)) ∷ (upTo 7 "east=1,1,1" gives (2, 7)) ∷ (upTo 7 "east=256,1,1,1,1" gives (2, 7))
-    ∷ (at 8 "north=0,1,255" gives (0, 0)) ∷ (upTo 8 "north=1,1,256" gives (3, 8)) ∷ (upTo 8 "north=1,1" gives (2, 8)) ∷ (upTo 8 "north=1,1,1,256" gives (2, 8))
-    ∷ (at 9 "east=0,1,2,255" gives (0, 0)) ∷ (upTo 9 "east=1,1,1,256" gives (3, 9)) ∷ (upTo 9 "east=1,1,1" gives (2, 9)) ∷ (upTo 9 "east=1,1,1,1,1" gives (2, 9))
-    ∷ (at 10 "north=0,1,255" gives (0, 0)) ∷ (upTo 10 "north=1,1,256" gives (3, 10)) ∷ (upTo 10 "north=1,1" gives (2, 10))
+    ∷ (at 7 "east=0,1,2,65535" gives (0, 0)) ∷ (upTo 7 "east=1,1,1,65536" gives (3, 7)) ∷ (upTo 7 "east=1,1,1" gives (2, 7)) ∷ (upTo 7 "east=65536,1,1,1,1" gives (2, 7))
+    ∷ (at 8 "north=0,1,65535" gives (0, 0)) ∷ (upTo 8 "north=1,1,65536" gives (3, 8)) ∷ (upTo 8 "north=1,1" gives (2, 8)) ∷ (upTo 8 "north=1,1,1,65536" gives (2, 8))
+    ∷ (at 9 "east=0,1,2,65535" gives (0, 0)) ∷ (upTo 9 "east=1,1,1,65536" gives (3, 9)) ∷ (upTo 9 "east=1,1,1" gives (2, 9)) ∷ (upTo 9 "east=1,1,1,1,1" gives (2, 9))
+    ∷ (at 10 "north=0,1,65535" gives (0, 0)) ∷ (upTo 10 "north=1,1,65536" gives (3, 10)) ∷ (upTo 10 "north=1,1" gives (2, 10))
     ∷ (upTo 10 "north=1,1,1,1" gives (2, 10)) ∷ []
 
 -- "Either may be an empty list": W = 1 has no `east` capacity and H = 1 no `north` one; and no list is longer there

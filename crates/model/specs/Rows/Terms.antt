@@ -3,7 +3,7 @@
 use mathlib.Core.Bool.{Bool, true, false}
 use mathlib.Core.List.{List, [], _∷_}
 use mathlib.Core.Option.{none}
-use Prim.Native.Nat.{ℕ, _-_}
+use Prim.Native.Nat.{ℕ, _-_, _*_}
 use lib.ListN.{getD}
 use Rattle.model.specs.Choices.{choices, leastOf}
 use Rattle.model.specs.Grid.{tiles, tile, eastCount, northCount, gridEdges, eastEdge, northEdge, Ends, edgeEnds, Way, ways}
@@ -136,6 +136,20 @@ stacked = record {
   nets = netWith (pin 0 1 ∷ pin 0 2 ∷ pin 0 3 ∷ []) [] ∷ netWith (pin 0 1 ∷ pin 1 1 ∷ []) (0 ∷ []) ∷ netWith (pin 1 1 ∷ pin 0 3 ∷ pin 1 3 ∷ pin 0 1 ∷ []) (0 ∷ []) ∷ [];
 }
 
+-- the most tracks on all of eight layers
+abbrev wide : Job
+wide = record {
+  width = 2;
+  height = 1;
+  layers = 8;
+  dirs = none;
+  alpha = 0;
+  beta = 0;
+  gamma = 255;
+  capacities = (65_535 ∷ []) ∷ (65_535 ∷ []) ∷ (65_535 ∷ []) ∷ (65_535 ∷ []) ∷ (65_535 ∷ []) ∷ (65_535 ∷ []) ∷ (65_535 ∷ []) ∷ (65_535 ∷ []) ∷ [];
+  nets = netWith (pin 0 1 ∷ []) (0 ∷ []) ∷ [];
+}
+
 abbrev scoreIn : Job → ℕ → ℕ
 scoreIn j n = score j (netOf j n)
 
@@ -149,6 +163,8 @@ scoreRows =
     -- "floor(1000 × gamma × D / C)"
     ∷ (densityTerm 1 2 3 gives 666) ∷ (densityTerm 2 2 3 gives 1_333) ∷ (densityTerm 1 3 0 gives 3_000) ∷ (densityTerm 1 3 1 gives 3_000)
     ∷ (densityTerm 255 4 2 gives 510_000) ∷ (densityTerm 1 0 0 gives 0)
+    -- S-3, "No sum, score or overflow may lose a digit": the longest net has 4,095 edges, each with all 4,096 nets and 65,535 tracks on eight layers
+    ∷ (densityTerm 255 (4_095 * 4_096) (4_095 * flatCapacity wide 0) gives 1_992) ∷ (densityTerm 255 (4_095 * 4_096) 1 gives 4_277_145_600_000)
     -- "P becomes the number of different tiles on the `pins` line."
     ∷ (differentTiles (pin 4 1 ∷ []) gives 1) ∷ (differentTiles (pin 4 1 ∷ pin 4 2 ∷ pin 4 3 ∷ []) gives 1) ∷ (differentTiles (pin 4 1 ∷ pin 5 1 ∷ pin 4 2 ∷ []) gives 2)
     ∷ (differentTiles (pin 4 1 ∷ pin 5 1 ∷ pin 6 1 ∷ []) gives 3)
@@ -187,7 +203,7 @@ piled =
 abbrev pub overflowRows : List (Row ℕ)
 overflowRows =
     -- "c(e) is the sum of an edge's K capacities, d(e) the nets using it, o(e) = d − c or 0, whichever is larger"
-    (flatCapacity crowded 0 gives 1) ∷ (flatCapacity crowded 1 gives 1) ∷ (flatCapacity mixed 6 gives 51) ∷ (flatDemand crowded 0 gives 4)
+    (flatCapacity wide 0 gives 524_280) ∷ (flatOverflow wide 0 gives 0) ∷ (flatCapacity crowded 0 gives 1) ∷ (flatCapacity crowded 1 gives 1) ∷ (flatCapacity mixed 6 gives 51) ∷ (flatDemand crowded 0 gives 4)
     ∷ (flatDemand crowded 1 gives 2) ∷ (flatOverflow crowded 0 gives 3) ∷ (flatOverflow crowded 1 gives 1) ∷ (flatOverflow mixed 0 gives 0)
     -- "TO is the sum of all o, MO the largest, 0 where there are no edges."
     ∷ (TO crowded gives 4) ∷ (MO crowded gives 3) ∷ (TO mixed gives 0) ∷ (MO mixed gives 0) ∷ (TO (jobWith 1 1 2 ([] ∷ [] ∷ []) []) gives 0)

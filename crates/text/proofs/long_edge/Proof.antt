@@ -4,7 +4,7 @@ use mathlib.Core.Path.{sym, _∙_}
 use Rattle.text.specs.Entries.{edgeEntryAt}
 use borrow.Author.Needs.{needs}
 use borrow.Author.Tests.{leb-false, not-true}
-use Rattle.text.proofs.Brief.{roomy, way-out}
+use Rattle.text.proofs.Spelt.{roomy, way-out}
 use Rattle.text.proofs.long_edge.Statement.{statement}
 use Rattle.text.proofs.long_edge.Tie as tie
 

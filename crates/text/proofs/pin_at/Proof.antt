@@ -2,7 +2,7 @@
 -- Assumes nothing.
 use borrow.Author.Needs.{needs}
 use Rattle.text.specs.Entries.{pinEntryAt}
-use Rattle.text.proofs.Brief.{told-more, told-last}
+use Rattle.text.proofs.Spelt.{told-more, told-last}
 use Rattle.text.proofs.pin_at.Statement.{statement}
 use Rattle.text.proofs.pin_at.Tie as tie
 

@@ -7,7 +7,7 @@ use lib.ListN.{getD}
 use Rattle.model.specs.Text.{isDigit}
 use borrow.Author.Needs.{needs}
 use borrow.Author.Tests.{not-false}
-use Rattle.text.proofs.Brief.{digit-least, short-one, short-two}
+use Rattle.text.proofs.Spelt.{digit-least, short-one, short-two}
 use Rattle.text.proofs.short.Statement.{statement}
 use Rattle.text.proofs.short.Tie as tie
 
@@ -27,7 +27,7 @@ second c = sym (c .before .is-digit2 .ensures) ∙ not-false _ (c .if5 .left)
 returns-6 : tie.Need-returns-6
 returns-6 c =
     let x = c .before .before .before .before .before .before .before .before .before .before .before .before in
-    short-two (x .args .s .now) (x .args .at) (x .args .end) (x .pre .1) (x .pre .0) (first (c .before)) (c .two-digits .result) (c .two-digits .ensures) (c .before .before .before .before .before .if3 .left) (second (c .before)) (c .before .before .before .if4 .left)
+    short-two (x .args .s .now) (x .args .at) (x .args .end) (x .pre .1) (x .pre .0) (first (c .before)) (c .two-digits .result) (c .two-digits .ensures .0) (c .before .before .before .before .before .if3 .left) (second (c .before)) (c .before .before .before .if4 .left)
 
 pub short-spec : {M : Type 1} → statement M
 short-spec =

@@ -3,7 +3,7 @@
 use borrow.Author.Needs.{needs}
 use Rattle.text.specs.Entries.{Paired}
 use Rattle.text.specs.declared.Pair.the-variants.{Values}
-use Rattle.text.proofs.Brief.{paired, edge-told}
+use Rattle.text.proofs.Spelt.{paired, edge-told}
 use Rattle.text.proofs.short_edge.Statement.{statement}
 use Rattle.text.proofs.short_edge.Tie as tie
 

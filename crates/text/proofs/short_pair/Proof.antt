@@ -5,7 +5,7 @@ use Prim.Native.Nat.{_+_, _≤_}
 use native.Mathlib.Omega.{arith}
 use lib.ListN.{length}
 use borrow.Author.Needs.{needs}
-use Rattle.text.proofs.Brief.{roomy, short-found, comma-is}
+use Rattle.text.proofs.Spelt.{roomy, short-found, comma-is}
 use Rattle.text.proofs.short_pair.Statement.{statement}
 use Rattle.text.proofs.short_pair.Tie as tie
 

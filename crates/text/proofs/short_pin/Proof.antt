@@ -6,7 +6,7 @@ use borrow.Author.Tests.{not-false}
 use borrow.Author.Needs.{needs}
 use Rattle.text.specs.Entries.{Paired}
 use Rattle.text.specs.declared.Pair.the-variants.{Values}
-use Rattle.text.proofs.Brief.{paired, pin-told}
+use Rattle.text.proofs.Spelt.{paired, pin-told}
 use Rattle.text.proofs.short_pin.Statement.{statement}
 use Rattle.text.proofs.short_pin.Tie as tie
 

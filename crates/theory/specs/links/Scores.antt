@@ -6,15 +6,16 @@ use mathlib.Core.Bool.{Bool, true, cond}
 use mathlib.Core.Logic.{_⊎_, inl, inr, ⊎-elim, _≢_}
 use Prim.Native.Nat.{ℕ, suc, _+_, _-_, _*_, _^_, _≤_, _<_}
 use native.Mathlib.Omega.{arith}
-use native.Mathlib.Nat.{mul-le-mul}
+use native.Mathlib.Nat.{mul-le-mul, mul-le-mul-right}
 use lib.Dec.{eqb}
 use lib.ListN.{length, length-map}
-use Rattle.model.specs.Lists.{any, twice, upFrom}
+use Rattle.model.specs.Lists.{any, twice, upFrom, sum}
 use Rattle.model.specs.Job.{Pin, Net, Job, netCount, tileCount, netOf}
-use Rattle.model.specs.Limits.{mostSide, mostLayers, mostNets}
+use Rattle.model.specs.Limits.{mostSide, mostLayers, mostCapacity, mostNets}
+use Rattle.model.specs.Overflow.{flatDemand, flatCapacity}
 use Rattle.model.specs.Read.{samePin, Lent}
 use Rattle.model.specs.Score.{score}
-use Rattle.theory.specs.congestion.Sums.{same, occurs, In, same-cases, eqb-true, eqb-false, lt-or-ge, in-head, in-tail}
+use Rattle.theory.specs.congestion.Sums.{same, occurs, In, sum-bound, same-cases, eqb-true, eqb-false, lt-or-ge, in-head, in-tail}
 use Rattle.theory.specs.congestion.Base.{length-upFrom, in-upFrom}
 use Rattle.theory.specs.walk.Stops.{less-length}
 use Rattle.theory.specs.walk.NetVias.{pinTiles}
@@ -23,7 +24,7 @@ use Rattle.theory.specs.links.Nets.{NetOk, EachPin}
 use Rattle.theory.specs.links.Reading.{Accepted}
 use Rattle.theory.specs.links.Planned.{net-ok}
 use Rattle.theory.specs.links.Engine.{edges-few}
-use Rattle.theory.specs.links.Limits.{demands-small, score-small}
+use Rattle.theory.specs.links.Limits.{demands-small, flat-capacity-small, score-small}
 
 -- ---- numbers below a size, none of them twice
 
@@ -103,10 +104,21 @@ module _ (lent : Lent) (j : Job) (acc : Accepted lent j) where
   pub tiles-few : tileCount j ≤ mostSide * mostSide
   tiles-few = mul-le-mul (acc .width .1) (acc .height .1)
 
-  demands-few : (n : Net) → NetOk (j .width) (j .height) (j .layers) n → length (n .edges) * netCount j ≤ (mostSide * mostSide - 1) * mostNets
-  demands-few n ok =
-      let d : length (n .edges) ≤ mostSide * mostSide - 1 = omega (arith, edges-few j (acc .width .0) (acc .height .0) n ok, tiles-few) in
-      mul-le-mul d (acc .net-count)
+  -- the longest net has 4,095 edges
+  pub longest : (n : Net) → NetOk (j .width) (j .height) (j .layers) n → length (n .edges) ≤ 4_095
+  longest n ok = omega (arith, edges-few j (acc .width .0) (acc .height .0) n ok, tiles-few)
+
+  -- D of a net is at most 4,095 × 4,096
+  pub net-demand : (n : Net) → NetOk (j .width) (j .height) (j .layers) n → sum (flatDemand j) (n .edges) ≤ 16_773_120
+  net-demand n ok = omega (arith, demands-small lent j acc (n .edges), mul-le-mul (longest n ok) (acc .net-count))
+
+  -- c(e) is at most 8 × 65,535, and C of a net 4,095 × 8 × 65,535
+  pub edge-capacity : (e : ℕ) → flatCapacity j e ≤ 524_280
+  edge-capacity e = omega (arith, flat-capacity-small lent j acc e, mul-le-mul-right mostCapacity (acc .layers .1))
+
+  pub net-capacity : (n : Net) → NetOk (j .width) (j .height) (j .layers) n → sum (flatCapacity j) (n .edges) ≤ 2_146_926_600
+  net-capacity n ok =
+      omega (arith, sum-bound (flatCapacity j) 524_280 (n .edges) (λ e i. edge-capacity e), mul-le-mul-right 524_280 (longest n ok))
 
   -- every part of the score at its largest: 255,000 × (1 + 32,768 + 4,095 × 4,096)
   pub score-below : (n : Net) → NetOk (j .width) (j .height) (j .layers) n → score j n < 2 ^ 42
@@ -116,8 +128,7 @@ module _ (lent : Lent) (j : Job) (acc : Accepted lent j) where
         score-small lent j acc n,
         pins-few (j .width) (j .height) (j .layers) n (acc .layers .1) ok,
         tiles-few,
-        demands-small lent j acc (n .edges),
-        demands-few n ok,
+        net-demand n ok,
       )
 
   -- the score of the net in place k, from 0

@@ -98,8 +98,8 @@ mod tests {
         assert_eq!(class(0, 0), Class::Absent);
         assert_eq!(class(1, 0), Class::Over);
         assert_eq!(class(0, 3), Class::Used(0));
-        assert_eq!(class(1, 255), Class::Used(1));
-        assert_eq!(class(254, 255), Class::Used(10));
+        assert_eq!(class(1, 65_535), Class::Used(1));
+        assert_eq!(class(65_534, 65_535), Class::Used(10));
         assert_eq!(class(3, 3), Class::Used(10));
         assert_eq!(class(4, 3), Class::Over);
     }

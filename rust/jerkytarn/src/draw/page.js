@@ -194,10 +194,10 @@ function edgeFacts(at) {
     facts([
       ['tiles', `${at.x},${at.y} and ${x2},${y2}`],
       ['edge', `${at.x},${at.y},${at.way}`],
-      ['capacity', capacity(at.layer, edge)],
-      ['used', used(at.layer, edge)],
-      ['overflow', over, over > 0],
-      ['on all layers', `${all} of ${tracks}`, all > tracks],
+      ['capacity', group(capacity(at.layer, edge))],
+      ['used', group(used(at.layer, edge))],
+      ['overflow', group(over), over > 0],
+      ['on all layers', `${group(all)} of ${group(tracks)}`, all > tracks],
     ]),
     chips(netsOn(at.layer, edge)),
   ];
@@ -239,11 +239,11 @@ function showFigures() {
   const [total, maximum] = block.overflow;
   const strong = (number) => element('strong', {}, group(number));
   const dirs = block.dirs ? ` (${block.dirs.join(',')})` : '';
-  const limits = block.dirs ? `; limit of a layer east ${block.limits[0]}, north ${block.limits[1]}` : '';
+  const limits = block.dirs ? `; limit of a layer east ${group(block.limits[0])}, north ${group(block.limits[1])}` : '';
   byId('runs').hidden = !block.dirs;
   byId('figures').append(
     strong(W), ' × ', strong(H), ' tiles · ', strong(K), ` layers${dirs} · `, strong(NETS), ' nets · ', strong(block.vias),
-    ' vias · overflow ', strong(total), `, at most ${maximum} on an edge (flat plan ${group(block.flat[0])}, at most ${block.flat[1]}${limits})`,
+    ' vias · overflow ', strong(total), `, at most ${group(maximum)} on an edge (flat plan ${group(block.flat[0])}, at most ${group(block.flat[1])}${limits})`,
   );
   for (let step = 0; step <= 10; step += 1) byId('ramp').append(element('i', { style: `background:var(--u${step})` }));
 }
@@ -260,7 +260,7 @@ function showCrowded() {
   for (const [over, , some, layer, edge] of places.slice(0, 15)) {
     const { x, y, way } = ends(edge);
     const at = { layer, x, y, way };
-    const share = `${some} of ${capacity(layer, edge)}${over ? ' ◆' : ''}`;
+    const share = `${group(some)} of ${group(capacity(layer, edge))}${over ? ' ◆' : ''}`;
     const button = element('button', { type: 'button', onclick: () => hold(at) }, element('span', {}, edgeWords(at)), element('span', {}, share));
     byId('crowded').append(element('li', {}, button));
   }
@@ -721,7 +721,8 @@ function showTip(event, at) {
   if (at.way) {
     const edge = edgeNumber(at.x, at.y, at.way);
     const over = overflow(at.layer, edge);
-    tip.textContent = `${edgeWords(at)}: ${used(at.layer, edge)} of ${capacity(at.layer, edge)} used${over ? `, overflow ${over} ◆` : ''}`;
+    const share = `${group(used(at.layer, edge))} of ${group(capacity(at.layer, edge))} used`;
+    tip.textContent = `${edgeWords(at)}: ${share}${over ? `, overflow ${group(over)} ◆` : ''}`;
   } else {
     tip.textContent = `Tile ${at.x},${at.y}: ${group(viasAt(at.y * W + at.x))} vias`;
   }

@@ -114,7 +114,8 @@ fn values_of_another_form() {
 fn numbers_out_of_range() {
     expect(b"width=65\n", 3, 1, &["`width` is 65", "from 1 to 64"]);
     expect(&with_line(3, "layers=9\n"), 3, 3, &["from 2 to 8"]);
-    expect(&with_line(9, "east=1,256\n"), 3, 9, &["entry 2 is 256", "from tile 1,0 to tile 2,0 on layer 2"]);
+    expect(&with_line(9, "east=1,65536\n"), 3, 9, &["entry 2 is 65536", "from tile 1,0 to tile 2,0 on layer 2"]);
+    expect(&with_line(9, "east=99999,1\n"), 3, 9, &["entry 1 is 99999", "a capacity from 0 to 65535", "^^^^^"]);
     expect(&with_line(11, "nets=4097\n"), 3, 11, &["from 0 to 4096"]);
     expect(&with_line(13, "pins=3,0,1\n"), 3, 13, &["in pin 1 x is 3", "from 0 to 2"]);
     expect(&with_line(13, "pins=0,0,1;0,1,1\n"), 3, 13, &["in pin 2 y is 1"]);
@@ -204,7 +205,7 @@ fn the_key_of_directions_where_it_does_not_stand() {
 
 #[test]
 fn lines_behind_directions_have_their_kinds() {
-    expect_directed(3, 10, "east=0,0,0,256\n", &["entry 4 is 256", "from tile 1,1 to tile 2,1 on layer 2"]);
+    expect_directed(3, 10, "east=0,0,0,65536\n", &["entry 4 is 65536", "from tile 1,1 to tile 2,1 on layer 2"]);
     expect_directed(2, 14, "east=0,0,0,0\n", &["raise `layers`, which is 3"]);
     expect_directed(4, 18, "net=3\n", &["the 2nd net"]);
     expect_directed(8, 17, "edges=0,0,e;1,0,e\n", &["pin 2 of line 16, 2,1,1", "tile 2,0, which is reached"]);
@@ -231,7 +232,12 @@ fn tracks_and_edges_against_the_directions() {
             "| east=0,0,7,1\n         |          ^\n",
         ],
     );
-    expect_directed(12, 13, "north=0,0,255\n", &["entry 3 is 255", "layer 3 is `h` and carries no north edges", "^^^"]);
+    expect_directed(
+        12,
+        13,
+        "north=0,0,65535\n",
+        &["entry 3 is 65535", "layer 3 is `h` and carries no north edges", "^^^^^"],
+    );
     // a line of directions of which none is `v`
     let text = replaced(DIRECTED, 4, "dirs=h,h,h\n");
     let told = message("a.job", &text, Refusal { number: 13, line: 17 }, Lengths::enough(0));

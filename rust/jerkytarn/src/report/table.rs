@@ -118,7 +118,7 @@ fn put_layers(out: &mut String, report: &Report, style: Style) {
     let runs = if report.dirs.is_some() { "  runs" } else { "" };
     line!(
         out,
-        "\n  layer{runs}     tracks       used  {:<BAR$}  share       full  overflowed  overflow",
+        "\n  layer{runs}      tracks       used  {:<BAR$}  share       full  overflowed  overflow",
         "tracks used"
     );
     for row in &report.by_layer {
@@ -127,7 +127,7 @@ fn put_layers(out: &mut String, report: &Report, style: Style) {
         let over = if row.overflow > 0 { " !" } else { "" };
         line!(
             out,
-            "  {:>5}{runs} {:>10} {:>10}  {bar} {:>5.1}% {:>10} {:>11} {:>9}{over}",
+            "  {:>5}{runs} {:>11} {:>10}  {bar} {:>5.1}% {:>10} {:>11} {:>9}{over}",
             row.layer,
             g(row.tracks),
             g(row.used),
@@ -145,7 +145,7 @@ fn put_crowded(out: &mut String, report: &Report, style: Style) {
         line!(out, "    none: no net uses an edge");
         return;
     }
-    line!(out, "    layer  from tile     to tile     used  capacity  overflow");
+    line!(out, "    layer  from tile    to tile    used  capacity  overflow");
     for row in &report.most_crowded {
         let tile = |[x, y]: [usize; 2]| format!("{x},{y}");
         let over = if row.overflow > 0 { " !" } else { "" };
@@ -164,7 +164,7 @@ fn put_crowded(out: &mut String, report: &Report, style: Style) {
 }
 
 fn put_levels(out: &mut String, report: &Report, style: Style) {
-    line!(out, "\n  level          vias");
+    line!(out, "\n  level        vias");
     let most = report.vias_by_level.iter().map(|row| row.vias).max().unwrap_or(0);
     for row in &report.vias_by_level {
         line!(out, "  {} to {} {:>10}  {}", row.lower, row.upper, g(row.vias), style.bar(row.vias, most));

@@ -1,14 +1,14 @@
--- `short_run` meets its contract. The loop's invariant: what was read so far leads from the first place to the one at hand.
+-- `brief_run` meets its contract. The loop's invariant: what was read so far leads from the first place to the one at hand.
 -- Assumes nothing.
-use Rattle.text.specs.Entries.{Short}
+use Rattle.text.specs.Entries.{Brief}
 use Rattle.text.specs.declared.Numeral.the-variants.{Value}
 use Rattle.capacities.specs.declared.Run.{Run}
 use Rattle.capacities.specs.Ran.{Ran}
 use Rattle.capacities.proofs.Going.{ran-start, ran-then, next-in, next-small, one-more}
 use borrow.Author.Needs.{needs}
 use native.Mathlib.Omega.{arith}
-use Rattle.capacities.proofs.short_run.Statement.{statement}
-use Rattle.capacities.proofs.short_run.Tie as tie
+use Rattle.capacities.proofs.brief_run.Statement.{statement}
+use Rattle.capacities.proofs.brief_run.Tie as tie
 
 abbrev Inv-loop : tie.InvT-loop
 Inv-loop s w₀ k at₀ to₀ left₀ inside₀ w at to left inside =
@@ -41,12 +41,12 @@ loop-again c =
     let l = n .before .before in
     let a = l .before .before .before .args in
     let g = v .v .given in
-    let f : Short (a .s .now) (l .loop .at) 44 (Value (g .0 .0) (g .0 .1 .0)) = rw (g .1) at (n .short-comma .ensures) in
+    let f : Brief (a .s .now) (l .loop .at) 44 (Value (g .0 .0) (g .0 .1 .0)) = rw (g .1) at (n .brief-comma .ensures) in
     ran-then (a .s .now) (a .k) (l .loop .inv)
-    (one-more (a .s .now) (a .k) (l .loop .w) (here l) (l .loop .inv .stands) (n .before .loop-test .taken) (g .0 .0) (g .0 .1 .0) (p .put .result) (p .put .last .0) (f .0) (p .put .ensures .0) (p .put .ensures .1))
+    (one-more (a .s .now) (a .k) (l .loop .w) (here l) (l .loop .inv .stands) (n .before .loop-test .taken) (g .0 .0) (g .0 .1 .0) (p .put .result) (p .put .last .0) f (p .put .ensures .0) (p .put .ensures .1))
 
-pub short-run-spec : {M : Type 1} → statement M
-short-run-spec =
+pub brief-run-spec : {M : Type 1} → statement M
+brief-run-spec =
     tie.close
     (tie.spec
     Inv-loop μ-loop
