@@ -7,7 +7,7 @@ use mathlib.Core.Option.{Option, none, some}
 use Prim.Native.Nat.{ℕ, zero, suc, _+_, _-_, _*_, _≤_, max}
 use native.Mathlib.Omega.{arith}
 use native.Mathlib.Nat.{mul-assoc, mul-le-mul-left}
-use lib.Dec.{T, eqb, leb, ltb, leb→le}
+use lib.Dec.{eqb, ltb}
 use lib.ListN.{length, getD}
 use Rattle.model.specs.Grid.{eastCount}
 use Rattle.model.specs.Job.{Job, allEdges, groupIn, group, layersIn, layersOf}
@@ -16,7 +16,7 @@ use Rattle.model.specs.Overflow.{flatOverflow, MO, groupMost, limit, layerOverf
 use Rattle.theory.specs.congestion.Sums.{most, keep}
 use Rattle.theory.specs.congestion.Edge.{ceilDiv, ceil-le, le-ceil, ceil-zero}
 use Rattle.theory.specs.congestion.Base.{length-upFrom}
-use Rattle.theory.specs.links.Tests.{cond-both}
+use Rattle.theory.specs.links.Tests.{all-at}
 use Rattle.theory.specs.links.Reading.{LettersOk}
 
 -- ---- two groups at most
@@ -90,17 +90,11 @@ ceil-twice o (suc k) =
       ceil-le o k₁ (ceilDiv (2 * o) (2 * k₁)) (omega (arith, le-ceil (2 * o) (2 * k₁) (omega arith), mul-assoc 2 k₁ (ceilDiv (2 * o) (2 * k₁)))),
     )
 
--- the letters are 0 or 1
-letter-at : (ds : List ℕ) (i : ℕ) → T (all (λ d. leb d 1) ds) → getD ds i 0 ≤ 1
-letter-at [] i t = omega arith
-letter-at (d ∷ ds) zero t = leb→le d 1 (cond-both (leb d 1) (all (λ a. leb a 1) ds) t .0)
-letter-at (d ∷ ds) (suc i) t = letter-at ds i (cond-both (leb d 1) (all (λ a. leb a 1) ds) t .1)
-
 module _ (j : Job) (ds : List ℕ) (given : j .dirs ≡ some ds) (letters : LettersOk (j .layers) ds) where
   -- each layer runs one of the two ways
   pub layers-split : length (layersIn j 0) + length (layersIn j 1) ≡ j .layers
   layers-split =
-      rw given (length-split (λ l. getD ds (l - 1) 0) (upFrom 1 (j .layers)) (λ l. letter-at ds (l - 1) (letters .1)) ∙ length-upFrom 1 (j .layers))
+      rw given (length-split (λ l. getD ds (l - 1) 0) (upFrom 1 (j .layers)) (λ l. all-at 1 ds (l - 1) (letters .1)) ∙ length-upFrom 1 (j .layers))
 
   -- "With equal halves the overall maximum agrees with the paper's 2/K": source document 000, section VI-B.
   -- Both limits divide by K/2, so the larger one is that of the larger overflow, which is MO.

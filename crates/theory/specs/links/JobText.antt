@@ -147,7 +147,8 @@ textChain lent text = tests (one 1 (leb (length text) mostText) (mostText < leng
 same-next : {A B : Type 0} {r s : Result A} {f g : A → Reading B} → r ≡ s → ((a : A) (p : Place) → f a p ≡ g a p) → next r f ≡ next s g
 same-next e h = λ i. next (e i) (λ a p. h a p i)
 
-behind-same : {A B : Type 0} (r : Result A) {f g : A → Reading B} → ((a : A) (p : Place) → f a p ≡ g a p) → next r f ≡ next r g
+-- two steps that agree in what comes after
+pub behind-same : {A B : Type 0} (r : Result A) {f g : A → Reading B} → ((a : A) (p : Place) → f a p ≡ g a p) → next r f ≡ next r g
 behind-same r h = λ i. next r (λ a p. h a p i)
 
 -- a line that may be left out, and its value then

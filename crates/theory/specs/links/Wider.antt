@@ -1,7 +1,7 @@
 -- A larger bound on the capacities accepts every text that a smaller one accepts, with the same job. Document 02, S-3: "every text accepted earlier yields the
 -- same plan".
 -- Assumes nothing.
-use mathlib.Core.Path.{_≡_, refl, sym, ap, subst, _∙_}
+use mathlib.Core.Path.{_≡_, refl, sym, ap, _∙_}
 use mathlib.Core.List.{List, [], _∷_, _++_}
 use mathlib.Core.Bool.{Bool, true, false, _&&_, _||_}
 use mathlib.Core.Logic.{_↔_}
@@ -17,10 +17,12 @@ use Rattle.model.specs.Job.{Job, runs, entryCount}
 use Rattle.model.specs.Limits.{leastSide, mostSide, leastLayers, mostLayers, mostWeight, mostCapacity, mostNets, mostText}
 use Rattle.model.specs.Lists.{all}
 use Rattle.model.specs.Plan.{plan}
-use Rattle.model.specs.Read.{Place, Result, refused, found, Reading, next, _>>=_, _>>_, give, form, need, line, ranged, dirsLine, capacityLine, capacityLines, Sizes, nets, Lent, workingNeed, printNeed, printFits, end, jobIn, textIn, read}
+use Rattle.model.specs.Read.{Place, Result, refused, found, Reading, next, _>>=_, _>>_, give, form, need, line, ranged, dirsLine, capacityLine, capacityLines, nets, Lent, workingNeed, printNeed, printFits, end, jobIn, read}
 use Rattle.model.specs.Score.{order}
 use Rattle.model.specs.Text.{numbers}
-use Rattle.theory.specs.links.Tests.{is-true, cond-both}
+use Rattle.theory.specs.links.Chain.{refused-found}
+use Rattle.theory.specs.links.JobText.{behind-same}
+use Rattle.theory.specs.links.Tests.{is-true, all-in, in-all}
 
 -- ---- the reading with the bound as a parameter
 
@@ -80,16 +82,8 @@ record Follows {A : Type 0} (x y : Result A) : Type 0 where
   finds : (a : A) (p : Place) → x ≡ found a p → y ≡ found a p
 
 module _ {A : Type 0} where
-  -- a refusal finds nothing
-  none-found : (n l : ℕ) (a : A) (p : Place) → refused n l ≡ found a p → ⊥
-  none-found n l a p e = subst (λ (x : Result A). test x) e tt
-    where
-      test : Result A → Type 0
-      test (refused m i) = Unit {0}
-      test (found b q) = ⊥
-
   follows-refused : (n l : ℕ) (y : Result A) → Follows (refused n l) y
-  follows-refused n l y = record { finds = λ a p e. absurd (none-found n l a p e) }
+  follows-refused n l y = record { finds = λ a p e. absurd (refused-found e) }
 
   follows-equal : (x y : Result A) → x ≡ y → Follows x y
   follows-equal x y e = record { finds = λ a p h. sym e ∙ h }
@@ -130,10 +124,7 @@ module _ (F G : Lines) (h : (W H : ℕ) (ds : Option (List ℕ)) (l m : ℕ) (p 
 -- ---- a larger bound
 
 all-below : (m n : ℕ) → m ≤ n → (cs : List ℕ) → T (all (λ c. leb c m) cs) → T (all (λ c. leb c n) cs)
-all-below m n h [] t = tt
-all-below m n h (c ∷ cs) t =
-    let b = cond-both (leb c m) (all (λ a. leb a m) cs) t in
-    rw (is-true (leb c n) (le→leb c n (omega (arith, leb→le c m (b .0))))) (all-below m n h cs (b .1))
+all-below m n h cs t = in-all (λ c. leb c n) cs (λ c i. le→leb c n (omega (arith, leb→le c m (all-in (λ d. leb d m) cs t c i))))
 
 module _ (m n : ℕ) (h : m ≤ n) where
   line-follows : (key : String) (size : ℕ) (along : Bool) (p : Place) → Follows (capacityLineTo m key size along p) (capacityLineTo n key size along p)
@@ -159,18 +150,12 @@ module _ (m n : ℕ) (h : m ≤ n) where
 
 -- ---- the bound of the definitions
 
-module _ {A B : Type 0} where
-  -- two steps that agree in what comes after
-  same-next : (r : Result A) (f g : A → Reading B) → ((a : A) (p : Place) → f a p ≡ g a p) → next r f ≡ next r g
-  same-next (refused n l) f g h = refl
-  same-next (found a p) f g h = h a p
-
 lines-same : (W H : ℕ) (ds : Option (List ℕ)) (l k : ℕ) (p : Place) → capacityLinesTo mostCapacity W H ds l k p ≡ capacityLines W H ds l k p
 unfolding capacityLine
 lines-same W H ds l zero p = refl
 lines-same W H ds l (suc k) p =
-    same-next (capacityLine "east" (eastCount W H) (runs ds 0 l) p) _ _
-    (λ east p₁. same-next (capacityLine "north" (northCount W H) (runs ds 1 l) p₁) _ _
+    behind-same (capacityLine "east" (eastCount W H) (runs ds 0 l) p)
+    (λ east p₁. behind-same (capacityLine "north" (northCount W H) (runs ds 1 l) p₁)
     (λ north p₂. ap (λ (r : Result (List (List ℕ))). next r (λ above. give ((east ++ north) ∷ above))) (lines-same W H ds (suc l) k p₂)))
 
 module _ (lent : Lent) (text : List ℕ) (j : Job) (p : Place) where
