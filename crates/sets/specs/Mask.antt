@@ -9,11 +9,13 @@ use native.Mathlib.Omega.{arith}
 use lib.Bits.{bitOr}
 use lib.Count.{leadingZeros, trailingZeros}
 use lib.Dec.{T, leb, leb→le, eqb, eqb→eq, eqb-refl}
-use lib.ListN.{getD}
+use lib.ListN.{getD, length}
 use Rattle.model.specs.Lists.{upFrom, keep}
+use Rattle.model.specs.Vias as defs
 use Rattle.theory.specs.congestion.Sums.{In, occurs, in-head, in-tail, same-cases, in-keep}
 use Rattle.theory.specs.congestion.Base.{in-upFrom}
-use Rattle.theory.specs.engine.Span.{Covers, span, span-ends, covers-cons, covers-append}
+use Rattle.theory.specs.engine.Span.{Covers, span, span-le, span-set, covers-cons, covers-append}
+use Rattle.theory.specs.links.Best.{engine-span}
 use Rattle.sets.specs.Computed.{both, both-left, both-right, all, below}
 
 -- layer l is in the set m
@@ -29,9 +31,13 @@ abbrev pub maskOf : ℕ → List ℕ → ℕ
 maskOf m [] = m
 maskOf m (l ∷ ls) = maskOf (withLayer m l) ls
 
--- highest minus lowest layer of the set, by the zeros at both ends of its 32 digits; 0 of the empty set
+-- the layers of a mask, as a list
+abbrev pub layersIn : ℕ → List ℕ
+layersIn m = keep (has m) (upFrom 1 8)
+
+-- the vias of a tile with the set m: the definitions' span of its layers
 unfoldable pub spanOf : ℕ → ℕ
-spanOf m = 31 - leadingZeros 32 m - trailingZeros 32 m
+spanOf m = defs.span (layersIn m)
 
 -- the chart has the cost of every set of eight layers: `price m` is that of the set m
 pub record Charted (price : ℕ → ℕ) (chart : List ℕ) : Type 0 where
@@ -194,42 +200,15 @@ ends-of (suc j) p h = go (suc j) (below (λ t. ends (suc t)) 255 ends-test j (om
               (leb→le (bottom m) l (both-left (leb (bottom m) l) (leb l (top m)) v), leb→le l (top m) (both-right (leb (bottom m) l) (leb l (top m)) v));
         }
 
-span-zero : spanOf 0 ≡ 0
-unfolding spanOf leadingZeros trailingZeros
-span-zero = refl
-
 pub no-layer : (l : ℕ) → 1 ≤ l → l ≤ 8 → T (has 0 l) → T false
 no-layer l p q t =
     let e : suc (l - 1) ≡ l = omega arith in
     implied (has 0 l) false (subst (λ (x : ℕ). T (implies (has 0 x) false)) e (below (λ k. implies (has 0 (suc k)) false) 8 tt (l - 1) (omega arith))) t
 
-by-zeros : (m : ℕ) → Ends m → spanOf m ≡ top m - bottom m
-unfolding spanOf
-by-zeros m e = omega (arith, e .lead, e .trail)
-
--- the span by the zeros at both ends is the span of the set
-pub span-is : (m : ℕ) (xs : List ℕ) → IsSet m xs → spanOf m ≡ span (λ l. l) xs
-unfolding span
-span-is zero [] s = span-zero
-span-is zero (x ∷ xs) s = let c = s .covers x (in-head x xs) in absurd (no-layer x (c .0) (c .1) (s .back x (in-head x xs)))
-span-is (suc m) xs s = finish (ends-of (suc m) (omega arith) (s .small))
-  where
-    finish : Ends (suc m) → spanOf (suc m) ≡ span (λ l. l) xs
-    finish e =
-        by-zeros (suc m) e
-        ∙ sym (span-ends (λ l. l) (λ a b h. h) (bottom (suc m)) (top (suc m)) xs
-        (s .into (bottom (suc m)) (omega arith) (omega (arith, e .high, e .trail, e .lead)) (e .has-bottom))
-        (s .into (top (suc m)) (omega (arith, e .lead)) (e .high) (e .has-top))
-        (λ x i. let c = s .covers x i in e .held x (c .0) (c .1) (s .back x i)))
-
 -- ---- sets by members only
 
 pub set-none : IsSet 0 []
 set-none = record { small = omega arith; covers = λ x i. absurd (omega arith); into = λ l p q t. absurd (no-layer l p q t); back = λ l i. absurd (omega arith) }
-
--- the layers of a mask, as a list
-abbrev pub layersIn : ℕ → List ℕ
-layersIn m = keep (has m) (upFrom 1 8)
 
 pub set-layers-in : (m : ℕ) → m < 256 → IsSet m (layersIn m)
 set-layers-in m h = record {
@@ -242,12 +221,37 @@ set-layers-in m h = record {
 pub set-same : (m : ℕ) (xs ys : List ℕ) → Covers 1 8 ys → ((l : ℕ) → In l xs → In l ys) → ((l : ℕ) → In l ys → In l xs) → IsSet m xs → IsSet m ys
 set-same m xs ys c f g s = record { small = s .small; covers = c; into = λ l a b t. f l (s .into l a b t); back = λ l i. s .back l (g l i) }
 
+-- the definitions' span of the set is the engine's, whichever list has its layers
+pub span-is : (m : ℕ) (xs : List ℕ) → IsSet m xs → spanOf m ≡ span (λ l. l) xs
+unfolding spanOf
+span-is m xs s =
+    let own = set-layers-in m (s .small) in
+    sym (engine-span (layersIn m))
+    ∙ span-set (λ l. l) (layersIn m) xs (λ x i. let c = own .covers x i in s .into x (c .0) (c .1) (own .back x i)) (λ x i. let c = s .covers x i in own .into x (c .0) (c .1) (s .back x i))
+
 pub span-le-7 : (m : ℕ) → m < 256 → spanOf m ≤ 7
-span-le-7 zero h = omega (arith, span-zero)
-span-le-7 (suc m) h = go (ends-of (suc m) (omega arith) h)
-  where
-    go : Ends (suc m) → spanOf (suc m) ≤ 7
-    go e = omega (arith, by-zeros (suc m) e, e .high, e .lead, e .trail)
+span-le-7 m h = let own = set-layers-in m h in omega (arith, span-is m (layersIn m) own, span-le (λ l. l) (λ a b k. k) 1 8 (layersIn m) (own .covers))
+
+-- ---- the chart
+
+-- entry m of sixteen rows of sixteen
+abbrev pub entryOf : List (List ℕ) → ℕ → ℕ
+entryOf rows m = getD (getD rows (m / 16) []) (m % 16) 0
+
+-- entry m is the span of its set
+unfoldable pub right : List (List ℕ) → ℕ → Bool
+right rows m = eqb (entryOf rows m) (spanOf m)
+
+-- d is c with the first n numbers of row r in their places; what stands before the row is as it was
+pub record Rowed (row : List ℕ) (r n : ℕ) (c d : List ℕ) : Type 0 where
+  pub long : length d ≡ length c
+  pub written : (i : ℕ) → i < n → getD d (16 * r + i) 0 ≡ getD row i 0
+  pub before : (t : ℕ) → t < 16 * r → getD d t 0 ≡ getD c t 0
+
+-- Each entry of the chart is the span of its set, highest minus lowest layer, by one test of them all.
+pub chart-is : (rows : List (List ℕ)) → T (all (right rows) 256) → (m : ℕ) → m < 256 → entryOf rows m ≡ spanOf m
+unfolding right
+chart-is rows t m h = eqb→eq (entryOf rows m) (spanOf m) (below (right rows) 256 t m h)
 
 -- the layers ls on top of a set S
 occurs-append : (a : ℕ) (xs ys : List ℕ) → occurs a (xs ++ ys) ≡ occurs a xs + occurs a ys
@@ -275,18 +279,3 @@ pub power-is : (l : ℕ) → 1 ≤ l → l ≤ 8 → 1 * 2 ^ (l - 1) % 429496729
 power-is l p q =
     eqb→eq (1 * 2 ^ (l - 1) % 4294967296) (2 ^ (l - 1))
     (below (λ j. eqb (1 * 2 ^ j % 4294967296) (2 ^ j)) 8 tt (l - 1) (omega arith))
-
-pub span-none : (m : ℕ) → m ≡ 0 → (0 ≡ spanOf m) × (_≤_ 0 7)
-span-none m e = rw e (sym span-zero, omega arith)
-
--- the span as code has it: the highest layer less the lowest, counted from 0
-pub span-code : (m a b : ℕ) → 1 ≤ m → m < 256 → suc a ≡ top m → suc b ≡ bottom m → (b ≤ a) × (a - b ≡ spanOf m) × (a - b ≤ 7)
-span-code m a b p h ea eb = go (ends-of m p h)
-  where
-    go : Ends m → (b ≤ a) × (a - b ≡ spanOf m) × (a - b ≤ 7)
-    go e =
-        let x = by-zeros m e in
-        let k = e .high in
-        let i = e .lead in
-        let j = e .trail in
-        (omega arith, omega arith, omega arith)
