@@ -65,9 +65,14 @@ typedef struct layerplan_result {
     uint64_t length;  /* layerplan_print: the bytes of the printed text; layerplan_plan: 0 */
 } layerplan_result;
 
-/* An entry of the order list: the number of a net, from 1, and its score, in which pins on several layers of a tile count once. */
+/*
+ * An entry of the order list: the number of a net, from 1; the lowest layer that its timing wants, 1 to K, which is the
+ * number on its `low` line and 1 without the line; and its score, in which pins on several layers of a tile count once.
+ * An entry has 16 bytes, without any between its fields.
+ */
 typedef struct layerplan_entry {
     uint32_t net;
+    uint32_t low;
     uint64_t score;
 } layerplan_entry;
 
@@ -103,11 +108,11 @@ typedef struct layerplan_entry {
  *
  *   text     the job text; only read. Capacities run from 0 to 65,535. Right after `layers` it may have the line `dirs`,
  *            a letter for each layer with commas between: edges to the east then use only layers with `h`, edges to the
- *            north only layers with `v`
+ *            north only layers with `v`. Right after `net` each net may have the line `low`, the lowest layer that its
+ *            timing wants, 1 to K; layers, scores and order are the same with it and without
  *   work     working numbers. What they held is of no account. After every call, refused or not, all work_length of
  *            them are 0
- *   order    the order list: the nets with their scores, in placing order. The bytes between net and score are of no
- *            account
+ *   order    the order list: the nets with their lowest wanted layers and their scores, in placing order
  *   answer   the layers, 1 to K, nets in job order, each net's layers in the order of its `edges` line
  *
  * An accepted job fills the first N entries of order and the first A bytes of answer; what lies beyond stays as it was.
@@ -122,7 +127,9 @@ layerplan_result layerplan_plan(const uint8_t *text, size_t text_length,
  * Print: does the same, and writes the plan as a text.
  *
  *   print    the printed text fills its first `length` bytes; there is no zero byte behind it. What lies beyond stays as
- *            it was. A refused job leaves it as it was
+ *            it was. A refused job leaves it as it was. In a job that has a `low` line the text ends with the line
+ *            `ldof=N`: summed over all edges, the fewest nets with `low` above 1 that must go without a track on a layer
+ *            that they want, over all ways to hand out the tracks of the edge, whatever the plan
  */
 layerplan_result layerplan_print(const uint8_t *text, size_t text_length,
                                  uint32_t *work, size_t work_length,

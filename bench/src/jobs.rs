@@ -1,4 +1,4 @@
-//! The jobs: seven families at four sizes, those that show the growth, and heads alone. Each is made from a fixed seed.
+//! The jobs: eight families at four sizes, those that show the growth, and heads alone. Each is made from a fixed seed.
 //!
 //! From one size to the next the grid's tiles, the bytes of the text and, where it is given, the number of nets grow
 //! fourfold, up to the limits of document 01: 64 × 64 tiles, 8 layers, 4,096 nets, 1,048,576 bytes.
@@ -6,7 +6,8 @@
 use crate::MOST_CAPACITY;
 use second::gen::Rng;
 
-pub const FAMILIES: [&str; 7] = ["congested", "plenty", "branches", "giant", "short", "directions", "wide"];
+pub const FAMILIES: [&str; 8] =
+    ["congested", "plenty", "branches", "giant", "short", "directions", "wide", "directives"];
 
 /// The family whose grids, nets and tracks the jobs of `directions` have: the two differ by the `dirs` line alone, and by
 /// the layers that the tracks are on.
@@ -173,12 +174,35 @@ fn head(side: usize, dirs: &str, tracks: &Tracks) -> String {
     text
 }
 
+/// The same nets, with a `low` line for every third of them: any layer above the first.
+fn with_lows(rng: &mut Rng, nets: &str) -> String {
+    let mut text = String::new();
+    for line in nets.lines() {
+        text += line;
+        text += "\n";
+        if line.starts_with("net=") && rng.chance(1, 3) {
+            text += &format!("low={}\n", rng.range(2, LAYERS));
+        }
+    }
+    text
+}
+
+/// A job of `directives` without its `low` lines.
+pub fn unmarked(size: usize) -> String {
+    let (tracks, nets) = parts("directives", size);
+    head(4 << size, "", &tracks) + &nets
+}
+
 /// The job of a family at a size.
 pub fn job(family: &str, size: usize) -> String {
     match family {
         "directions" => {
             let (tracks, nets) = parts(PARTNER, size);
             head(4 << size, "dirs=h,v,h,v,h,v,h,v\n", &by_turns(&tracks)) + &nets
+        }
+        "directives" => {
+            let (tracks, nets) = parts(family, size);
+            head(4 << size, "", &tracks) + &with_lows(&mut Rng::new(size as u64), &nets)
         }
         _ => {
             let (tracks, nets) = parts(family, size);
@@ -194,22 +218,23 @@ fn parts(family: &str, size: usize) -> (Tracks, String) {
     let side = 4 << size;
     let bytes = MOST_BYTES >> (2 * (4 - size));
     let tracks = tracks(rng, side, |rng| match family {
-        "congested" => rng.range(0, 2),
+        "congested" | "directives" => rng.range(0, 2),
         "plenty" => rng.range(30, 99),
         "wide" => of_digits(rng, 3, 5),
         _ => rng.range(0, 9),
     });
     let head = head(side, "", &tracks);
-    // what `nets` takes at most
-    let mut left = bytes - head.len() - "nets=4096\n".len();
     let count = match family {
-        "congested" | "plenty" | "short" | "wide" => 64 << (2 * (size - 1)),
+        "congested" | "plenty" | "short" | "wide" | "directives" => 64 << (2 * (size - 1)),
         _ => 4096,
     };
+    // what `nets` takes at most, and the `low` lines
+    let lows = if family == "directives" { count * "low=8\n".len() } else { 0 };
+    let mut left = bytes - head.len() - "nets=4096\n".len() - lows;
     let mut nets = Vec::new();
     while nets.len() < count {
         let edges = match family {
-            "congested" | "plenty" | "wide" => {
+            "congested" | "plenty" | "wide" | "directives" => {
                 // an entry has about 7.2 bytes at the largest size, and what else a net has about 50
                 let share = left.saturating_sub(300) / (count - nets.len());
                 let entry = if size < 3 { 6.2 } else { 7.3 };

@@ -39,8 +39,8 @@ pub struct Lent<'a> {
 /// The highest capacity of an edge on one layer.
 const MOST_CAPACITY: usize = 65_535;
 
-/// The keys of lines that a job may have or not (document 02), but for `dirs`.
-const OPTIONAL: [&str; 2] = ["viacost=", "low="];
+/// The keys of lines that a job may have or not (document 02), but for `dirs` and `low`.
+const OPTIONAL: [&str; 1] = ["viacost="];
 
 /// The plain and the optimised planner do not know these lines. Where they, or what lends to them, would have to do with
 /// one, this says so and ends: their answer would be that of another job.
@@ -108,7 +108,7 @@ impl Buffers {
             lists.filter(|list| !list.is_empty()).map(|list| 1 + list.iter().filter(|b| **b == b';').count()).sum();
         Buffers {
             work: vec![7; 2 * k * edges + 2 * edges + 32 * w * h],
-            order: vec![Entry { net: 7, score: 7 }; nets],
+            order: vec![Entry { net: 7, low: 7, score: 7 }; nets],
             answer: vec![7; entries],
             print: vec![7; 256 + 64 * nets + 2 * entries],
         }

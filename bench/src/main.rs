@@ -36,6 +36,9 @@ fn make(folder: &str) -> std::io::Result<()> {
             std::fs::write(format!("{folder}/{family}-{size}.job"), jobs::job(family, size))?;
         }
     }
+    for size in jobs::SIZES {
+        std::fs::write(format!("{folder}/unmarked-{size}.job"), jobs::unmarked(size))?;
+    }
     // more entries on each line; as many entries on more lines; the head alone
     for edges in [16, 32, 64, 128, 192] {
         std::fs::write(format!("{folder}/entries-{edges}.job"), jobs::growth(512, edges))?;

@@ -123,7 +123,8 @@ struct Shape {
     open: [u32; 2],
 }
 
-/// What is kept of a net: where its entries stand, the place of its first layer, in how many tiles its pins are and later its vias.
+/// What is kept of a net: where its entries stand, the place of its first layer, in how many tiles its pins are, with its
+/// lowest wanted layer above bit `LOW`, and later its vias.
 #[derive(Clone, Copy, Default)]
 struct Kept {
     pins: u32,
@@ -131,6 +132,9 @@ struct Kept {
     first: u32,
     number: u32,
 }
+
+/// The lowest wanted layer of a net stands above its pins' tiles, 0 where it has no `low` line.
+const LOW: u32 = 16;
 
 // ---- reading: the text ends with byte 10, so that no number runs over its end
 
@@ -239,6 +243,16 @@ impl Reader<'_> {
             self.at += 2;
         }
         Ok(closed)
+    }
+
+    /// The `low` line of a net, where the text goes on with its key: the layer, and 0 without the line. The line is there where its
+    /// key is, also without an end.
+    #[inline(always)]
+    fn low(&mut self, whole: &[u8], layers: usize) -> Result<u32, Refusal> {
+        if !whole[self.at..].starts_with(b"low=") {
+            return Ok(0);
+        }
+        Ok(self.ranged(b"low=", 1, layers)? as u32)
     }
 
     /// The capacities of one layer, those to the east (0) or to the north (1).
@@ -405,6 +419,46 @@ fn root(links: &mut [u32], base: u32, tile: usize) -> usize {
         *of(links, tile) = base + next as u32;
         tile = next;
     }
+}
+
+// ---- layer directives
+
+/// Over all edges and all layers above the first, the nets that want a layer and find no track there; nothing where no net has
+/// a `low` line. The nets are counted by edge and layer in the place of the rows, which are not in use before the first turn.
+/// A layer has no more tracks here than there can be nets, so the sum is that over all of them.
+#[inline(never)]
+fn ldof(text: &[u8], table: &[Kept], w: &mut Work, g: Shape) -> Option<u64> {
+    if table.iter().all(|kept| kept.number >> LOW == 0) {
+        return None;
+    }
+    let edges = w.tracks.len();
+    // SAFETY: eight numbers of 16 bits for each edge take as many bytes as the rows of half as many tiles, and need less alignment.
+    let wanted: &mut [[u16; 8]] = unsafe { std::slice::from_raw_parts_mut(w.rows.as_mut_ptr().cast(), edges) };
+    for kept in table {
+        let low = (kept.number >> LOW) as usize;
+        if low > 1 {
+            known_edges(text, kept.edges as usize, g.width, |tile, north| of(wanted, 2 * tile + north)[low - 1] += 1);
+        }
+    }
+    let mut sum = 0;
+    for (tracks, wanted) in w.tracks.iter().zip(wanted) {
+        if *wanted != [0; 8] {
+            sum += excess(tracks, wanted, g.layers);
+        }
+    }
+    Some(sum)
+}
+
+/// The same of one edge, from the top layer down.
+fn excess(tracks: &Tracks, wanted: &[u16; 8], layers: usize) -> u64 {
+    let (mut room, mut served, mut sum) = (0, 0, 0);
+    for layer in (1..layers).rev() {
+        room += i32::from(tracks[layer].max(0));
+        let demand = i32::from(wanted[layer]) + served;
+        sum += (demand - room).max(0) as u64;
+        served = demand.min(room);
+    }
+    sum
 }
 
 // ---- a net in its turn
@@ -801,10 +855,11 @@ fn run(text: &[u8], lent: Lent) -> Result<Returned, Refusal> {
         }
         let base = (net as u32 + 1) << STAMP;
         let kept = of(&mut table, net);
+        let low = reader.low(text, layers)?;
         reader.key(b"pins=")?;
         kept.pins = reader.at as u32;
         let tiles = reader.pins(w, g, base)?;
-        kept.number = tiles;
+        kept.number = tiles | low << LOW;
         reader.key(b"edges=")?;
         kept.edges = reader.at as u32;
         kept.first = entries;
@@ -837,7 +892,9 @@ fn run(text: &[u8], lent: Lent) -> Result<Returned, Refusal> {
                 c += u64::from(capacity);
             });
         }
-        let score = 1000 * alpha / length.max(1) + 1000 * beta * u64::from(kept.number) + 1000 * gamma * d / c.max(1);
+        let score =
+            1000 * alpha / length.max(1) + 1000 * beta * u64::from(kept.number & 0xffff) + 1000 * gamma * d / c.max(1);
+        order[net].low = (kept.number >> LOW).max(1);
         order[net].score = score << 12 | (4095 - net as u64);
     }
     order.sort_unstable_by(|a, b| b.score.cmp(&a.score));
@@ -845,6 +902,8 @@ fn run(text: &[u8], lent: Lent) -> Result<Returned, Refusal> {
         entry.net = 4096 - (entry.score & 4095) as u32;
         entry.score >>= 12;
     }
+
+    let last = if print.is_some() { ldof(text, &table[..count], w, g) } else { None };
 
     let (mut total, mut most) = (0, [0; 2]);
     for pair in w.flat.chunks_exact_mut(2) {
@@ -896,6 +955,10 @@ fn run(text: &[u8], lent: Lent) -> Result<Returned, Refusal> {
         writer.number(total, b'\n');
         writer.text(b"max_overflow=");
         writer.number(u64::from(maximum), b'\n');
+        if let Some(sum) = last {
+            writer.text(b"ldof=");
+            writer.number(sum, b'\n');
+        }
         length = writer.at as u64;
     }
     Ok(Returned { number: 0, line: 0, vias, total, maximum: u64::from(maximum), length })

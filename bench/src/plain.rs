@@ -8,6 +8,8 @@ use second::plan::Entry;
 struct Refusal(u64, u64);
 
 struct Net {
+    /// The lowest wanted layer, where a `low` line stands.
+    low: Option<usize>,
     /// Tile and layer.
     pins: Vec<(usize, usize)>,
     edges: Vec<usize>,
@@ -123,8 +125,8 @@ fn parts(entry: &[u8]) -> Option<[&[u8]; 3]> {
 }
 
 impl<'a> Reader<'a> {
-    /// The value of the next line, if it has this key. An optional line other than `dirs` has another, and is not for this
-    /// planner: `refused`.
+    /// The value of the next line, if it has this key. An optional line other than `dirs` and `low` has another, and is not
+    /// for this planner: `refused`.
     fn value(&mut self, key: &[u8]) -> Result<&'a [u8], Refusal> {
         self.line += 1;
         let rest = &self.text[self.at..];
@@ -185,6 +187,14 @@ impl<'a> Reader<'a> {
             return Err(self.refusal(12));
         }
         Ok(())
+    }
+
+    /// The `low` line of a net, where the text goes on with its key.
+    fn low(&mut self, layers: usize) -> Result<Option<usize>, Refusal> {
+        if !self.text[self.at..].starts_with(b"low=") {
+            return Ok(None);
+        }
+        self.number(b"low=", 1, layers).map(Some)
     }
 
     fn pins(&mut self, grid: Grid, layers: usize) -> Result<Vec<(usize, usize)>, Refusal> {
@@ -305,10 +315,11 @@ fn read(text: &[u8], work: usize, order: usize, answer: usize, print: Option<usi
         if net != turn {
             return Err(reader.refusal(4));
         }
+        let low = reader.low(layers)?;
         let pins = reader.pins(grid, layers)?;
         let edges = reader.edges(grid, dirs.as_ref(), &pins)?;
         total += edges.len();
-        nets.push(Net { pins, edges });
+        nets.push(Net { low, pins, edges });
     }
     if reader.at < text.len() {
         reader.line += 1;
@@ -474,7 +485,8 @@ fn plan(job: &Job, lent: Lent) -> Returned {
     }
 
     for (place, (score, net)) in list.iter().enumerate() {
-        order[place] = Entry { net: *net as u32 + 1, score: *score };
+        let low = job.nets[*net].low.unwrap_or(1) as u32;
+        order[place] = Entry { net: *net as u32 + 1, low, score: *score };
     }
     let mut at = 0;
     for layers in &chosen {
@@ -484,11 +496,35 @@ fn plan(job: &Job, lent: Lent) -> Returned {
     let total_vias: u64 = vias.iter().map(|vias| u64::from(*vias)).sum();
     let mut length = 0;
     if let Some(out) = print {
-        let text = printed(&order[..list.len()], &chosen, &vias, total_vias, total, maximum);
+        let mut text = printed(&order[..list.len()], &chosen, &vias, total_vias, total, maximum);
+        if job.nets.iter().any(|net| net.low.is_some()) {
+            text += &format!("ldof={}\n", ldof(job));
+        }
         out[..text.len()].copy_from_slice(text.as_bytes());
         length = text.len() as u64;
     }
     Returned { number: 0, line: 0, vias: total_vias, total, maximum: u64::from(maximum), length }
+}
+
+/// Over all edges and all layers above the first, the nets that want a layer and find no track there.
+fn ldof(job: &Job) -> u64 {
+    let mut wanted = vec![[0u32; 9]; job.grid.edges()];
+    for net in &job.nets {
+        for edge in &net.edges {
+            wanted[*edge][net.low.unwrap_or(1)] += 1;
+        }
+    }
+    let mut sum = 0;
+    for (edge, wanted) in wanted.iter().enumerate() {
+        let (mut room, mut served) = (0, 0);
+        for layer in (2..=job.layers).rev() {
+            room += job.capacity[layer - 1][edge];
+            let demand = wanted[layer] + served;
+            sum += u64::from(demand.saturating_sub(room));
+            served = demand.min(room);
+        }
+    }
+    sum
 }
 
 fn listed<T: ToString>(numbers: &[T]) -> String {

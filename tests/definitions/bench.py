@@ -6,6 +6,7 @@ refusal as (number, line), or the fields of an accepted outcome that they name.
 """
 
 from collections import namedtuple
+from itertools import zip_longest
 
 from second import PROGRAM_LENT, Lent
 
@@ -23,11 +24,11 @@ def header_lines(width, height, layers, alpha, beta, gamma, capacities, dirs=Non
     return lines + [f"{key}={numbers}" for layer in capacities for key, numbers in zip(("east", "north"), layer)]
 
 
-def net_lines(*pins_and_edges):
-    """The lines from `nets` on."""
+def net_lines(*pins_and_edges, lows=()):
+    """The lines from `nets` on; `lows` has the number of each net's `low` line, None where it has no such line."""
     lines = [f"nets={len(pins_and_edges)}"]
-    for number, (pins, edges) in enumerate(pins_and_edges, 1):
-        lines += [f"net={number}", f"pins={pins}", f"edges={edges}"]
+    for number, ((pins, edges), low) in enumerate(zip_longest(pins_and_edges, lows), 1):
+        lines += [f"net={number}"] + ([] if low is None else [f"low={low}"]) + [f"pins={pins}", f"edges={edges}"]
     return lines
 
 
@@ -72,19 +73,19 @@ C3_PRINT = "order=\ntotal_vias=0\ntotal_overflow=0\nmax_overflow=0\n"
 
 # "Bench jobs"
 JOBS = [
-    ("C1", C1, {"order": [(2, 3000), (1, 2500)], "text": C1_PRINT}),
+    ("C1", C1, {"order": [(2, 1, 3000), (1, 1, 2500)], "text": C1_PRINT}),
     ("C2", b"", (2, 1)),
     ("C3", one_tile(2), {"text": C3_PRINT}),
-    ("C4", text_of(header_lines(1, 1, 4, 1, 1, 0, [("", "")] * 4) + net_lines(("0,0,1;0,0,4", ""))), {"vias": 3, "plan": [[]], "order": [(1, 2000)]}),
+    ("C4", text_of(header_lines(1, 1, 4, 1, 1, 0, [("", "")] * 4) + net_lines(("0,0,1;0,0,4", ""))), {"vias": 3, "plan": [[]], "order": [(1, 1, 2000)]}),
     ("C5", pair("1", "0", "0,0,2;1,0,2"), {"plan": [[1]], "vias": 2}),
     ("C6", pair("1", "0", *["0,0,2;1,0,2"] * 2), {"plan": [[2], [1]], "vias": 2, "total": 1, "maximum": 1}),
     ("C7", pair("0", "0", *["0,0,1;1,0,1"] * 3), {"plan": [[1], [1], [2]], "total": 3, "maximum": 2}),
     ("C8, first term", text_of(header_lines(4, 1, 2, 1, 0, 0, [("1,1,1", "")] * 2) + net_lines(("0,0,1", "0,0,e;1,0,e;2,0,e"))),
-     {"order": [(1, 333)]}),
+     {"order": [(1, 1, 333)]}),
     ("C8, third term", text_of(header_lines(2, 1, 2, 0, 0, 1, [("1", ""), ("2", "")]) + net_lines(*[("0,0,1", "0,0,e")] * 2)),
-     {"order": [(1, 666), (2, 666)]}),
+     {"order": [(1, 1, 666), (2, 1, 666)]}),
     ("C9", text_of(header_lines(2, 1, 2, 0, 0, 1, [("0", "")] * 2) + net_lines(*[("0,0,1", "0,0,e")] * 3)),
-     {"order": [(1, 3000), (2, 3000), (3, 3000)]}),
+     {"order": [(1, 1, 3000), (2, 1, 3000), (3, 1, 3000)]}),
     ("C10, ring", square("0,0,e;0,0,n;1,0,n;0,1,e"), (7, 14)),
     ("C10, without south", square("0,0,n;1,0,n;0,1,e"), {}),
     ("C10, without west", square("0,0,e;1,0,n;0,1,e"), {}),
@@ -190,7 +191,7 @@ DIRECTIONS = [
     ("3 before 12", directed(replaced(b"east=1,1\nnorth=\nnets", b"east=1,65536\nnorth=\nnets"), b"h,v"), ROOMY, (3, 10)),
     ("2 before 12", directed(replaced(b"east=1,1\nnorth=\nnets", b"east=1\nnorth=\nnets"), b"h,v"), ROOMY, (2, 10)),
     ("12 before a later line", directed(C1, b"v,h").replace(b"nets=2", b"nets=x"), ROOMY, (12, 8)),
-    ("C1 with directions", directed(C1, b"h,h"), PROGRAM_LENT, {"order": [(2, 3000), (1, 2500)], "text": C1_PRINT}),
+    ("C1 with directions", directed(C1, b"h,h"), PROGRAM_LENT, {"order": [(2, 1, 3000), (1, 1, 2500)], "text": C1_PRINT}),
     ("9 after line 4", directed(C1, b"h,h"), SHORT, (9, 4)),
     ("9 after line 3 where line 4 has another key", directed(C1, b"h,h").replace(b"dirs=", b"dirs"), SHORT, (9, 3)),
     ("wrong letters before 9", directed(C1, b"h,e"), SHORT, (2, 4)),
@@ -210,7 +211,7 @@ def with_tracks(nets, *tracks):
 
 def scores(score):
     """The order list of three nets that score alike."""
-    return [(1, score), (2, score), (3, score)]
+    return [(1, 1, score), (2, 1, score), (3, 1, score)]
 
 
 # Where a capacity, c(e) or C kept only some of its digits, there would be fewer tracks than nets, or another score.
@@ -227,8 +228,89 @@ TRACKS = [
     ("65536 there", directed(with_tracks(1, "0", "65536"), b"h,v"), (3, 10)),
 ]
 
+
+# ---- S-5 of document 02
+
+def marked(text, *lows):
+    """The text with a `low` line for each net in turn, where its number is not None."""
+    for number, low in enumerate(lows, 1):
+        line = b"\nnet=%d\n" % number
+        assert text.count(line) == 1
+        text = text if low is None else text.replace(line, line + b"low=%d\n" % low)
+    return text
+
+
+def wanting(dirs, tracks, *lows):
+    """Two tiles in a row with so many tracks on each layer; each net has a pin on layer 1 and the edge between, and its `low` line."""
+    capacities = [(each, "") for each in tracks]
+    nets = net_lines(*[("0,0,1", "0,0,e")] * len(lows), lows=lows)
+    return text_of(header_lines(2, 1, len(tracks), 1, 1, 0, capacities, dirs) + nets)
+
+
+def figure(twos, threes):
+    """Source document 001, figures 3 to 5: three layers with 10 tracks each, and so many nets with `low` 2 and 3 on one edge."""
+    return wanting(None, ["10"] * 3, *[2] * twos, *[3] * threes)
+
+
+def c1_shown(one, two, ldof):
+    """What C1 gives with `low` lines of these layers: "The placing is untouched"."""
+    return {"order": [(2, two, 3000), (1, one, 2500)], "plan": [[2, 1], [1]], "text": C1_PRINT + f"ldof={ldof}\n", "ldof": ldof}
+
+
+NOT_WANTED = "order=1\nnet=1\nvias=0\nlayers=1\ntotal_vias=0\ntotal_overflow=0\nmax_overflow=0\nldof=1\n"
+FIVE = (3, 3, 2, 1, None)
+BOTH = marked(C1, 1, 2)
+
+DIRECTIVES = [
+    ("`low` for one net", marked(C1, 2), PROGRAM_LENT, c1_shown(2, 1, 0)),
+    ("`low` for the other net", marked(C1, None, 2), PROGRAM_LENT, c1_shown(1, 2, 0)),
+    ("`low` 1", marked(C1, 1, 1), PROGRAM_LENT, c1_shown(1, 1, 0)),
+    ("`low` 1 for one net", marked(C1, 1), PROGRAM_LENT, c1_shown(1, 1, 0)),
+    ("`low` K for both", marked(C1, 2, 2), PROGRAM_LENT, c1_shown(2, 2, 1)),
+    ("`low` K for both, directions", directed(marked(C1, 2, 2), b"h,h"), PROGRAM_LENT, c1_shown(2, 2, 1)),
+    ("no `low` line, no `ldof`", C1, PROGRAM_LENT, {"ldof": None}),
+    ("no nets, no `ldof`", line_of_tiles(2), PROGRAM_LENT, {"text": C3_PRINT, "ldof": None}),
+    ("no track on a wanted layer", marked(pair("2", "0", "0,0,1;1,0,1"), 2), PROGRAM_LENT,
+     {"order": [(1, 2, 3000)], "plan": [[1]], "text": NOT_WANTED}),
+    ("figure 3", figure(11, 8), ROOMY._replace(print=2_000), {"ldof": 0}),
+    ("figure 4", figure(11, 12), ROOMY._replace(print=2_000), {"ldof": 3}),
+    ("figure 5", figure(14, 8), ROOMY._replace(print=2_000), {"ldof": 2}),
+    ("no tracks on the highest layer", wanting(None, ["9", "9", "0"], 3, 3, 3, 3), ROOMY, {"ldof": 4}),
+    ("the same, one layer lower", wanting(None, ["9", "9", "0"], 2, 2, 2, 2), ROOMY, {"ldof": 0}),
+    ("three tracks on the highest layer", wanting(None, ["9", "9", "3"], 3, 3, 3, 3), ROOMY, {"ldof": 1}),
+    ("what is short above takes nothing below", wanting(None, ["0", "1", "1", "1"], 2, 3, 4, 4, 4), ROOMY, {"ldof": 2}),
+    ("`low` 1 does not count", wanting(None, ["0", "1"], 1, 1, 2), ROOMY, {"ldof": 0}),
+    ("and takes no track", wanting(None, ["0", "1"], 1, 1, 2, 2, 2), ROOMY, {"ldof": 2}),
+    ("five nets", wanting(None, ["2", "1", "1"], *FIVE), ROOMY, {"ldof": 1}),
+    ("t runs over all layers", wanting("h,v,h", ["2", "0", "1"], *FIVE), ROOMY, {"ldof": 2}),
+    ("t runs over all layers, K to the north", wanting("h,h,v", ["2", "1", "0"], *FIVE), ROOMY, {"ldof": 2}),
+    ("65535 tracks on a wanted layer", wanting(None, ["0", "65535"], 2, 2, 2), ROOMY, {"ldof": 0}),
+    ("`low` 0", marked(C1, 0), ROOMY, (3, 13)),
+    ("`low` above K", marked(C1, 3), ROOMY, (3, 13)),
+    ("`low` above K, the last net", marked(C1, 2, 3), ROOMY, (3, 17)),
+    ("`low` 99999", marked(C1, 99_999), ROOMY, (3, 13)),
+    ("`low` of six digits", marked(C1, 100_000), ROOMY, (2, 13)),
+    ("`low` with a leading zero", marked(C1, 2).replace(b"low=2", b"low=02"), ROOMY, (2, 13)),
+    ("`low` without a number", marked(C1, 2).replace(b"low=2", b"low="), ROOMY, (2, 13)),
+    ("`low` without `=`", marked(C1, 2).replace(b"low=2", b"low"), ROOMY, (2, 13)),
+    ("`low` without its byte 10", marked(C1, 2).split(b"\npins")[0], ROOMY, (2, 13)),
+    ("`low` twice", marked(marked(C1, 2), 1), ROOMY, (2, 14)),
+    ("`low` behind `pins`", replaced(b"edges=0,0,e;1,0,e", b"low=2\nedges=0,0,e;1,0,e"), ROOMY, (2, 14)),
+    ("`low` before `net`", replaced(b"net=2", b"low=2\nnet=2"), ROOMY, (2, 15)),
+    ("4 before `low`", marked(C1, 0).replace(b"net=1", b"net=3"), ROOMY, (4, 12)),
+    ("`low` before `pins`", marked(C1, 3).replace(b"pins=0,0,1;2", b"pins=;2"), ROOMY, (3, 13)),
+    ("a line later on `pins`", marked(C1, 2).replace(b"pins=0,0,1;2,0,1", b"pins=0,0,1;0,0,1"), ROOMY, (5, 14)),
+    ("a line later on `edges`", marked(C1, 2).replace(b"edges=0,0,e;1,0,e", b"edges=0,0,e;0,0,e"), ROOMY, (6, 15)),
+    ("a line later on `net`", marked(C1, 2).replace(b"net=2", b"net=3"), ROOMY, (4, 16)),
+    ("two lines later behind the end", BOTH + b"x", ROOMY, (2, 20)),
+    ("two lines later, answer list too short", BOTH, Lent(100_000, 2, 2, None), (11, 19)),
+    ("two lines later, print buffer too short", BOTH, Lent(100_000, 2, 3, 389), (11, 19)),
+    ("`low` lines need no more", BOTH, Lent(108, 2, 3, 390), c1_shown(1, 2, 0)),
+    ("10 before `low`", marked(C1, 0), Lent(100_000, 1, 0, 0), (10, 11)),
+]
+
 BENCH = ([Bench(name, text, PROGRAM_LENT, said) for name, text, said in JOBS + TRACKS]
-         + [Bench(name, text, lent, said) for name, text, lent, said in FIRST_FAULTS + DIRECTIONS])
+         + [Bench(name, text, lent, said) for name, text, lent, said in FIRST_FAULTS + DIRECTIONS + DIRECTIVES])
 
 
 def as_said(bench, result):

@@ -7,7 +7,7 @@ import random
 import re
 from collections import namedtuple
 
-from bench import BENCH, C1, ROOMY, directed, header_lines, net_lines, text_of
+from bench import BENCH, C1, ROOMY, directed, header_lines, marked, net_lines, text_of
 from second import MOST_BYTES, MOST_INPUT, PROGRAM_LENT, Lent
 
 # `kind` says how the text was made. `text` is the whole text; or, where `length` is a number, the start of any text of that
@@ -99,6 +99,25 @@ def dirs_cases():
             yield Case("dirs", text, lent)
 
 
+# What may stand before `pins` in a job with two layers: `low` lines, well-formed or not, and others that look like one.
+LOW_LINES = [b"low=1", b"low=2", b"low=0", b"low=3", b"low=9", b"low=255", b"low=256", b"low=65536", b"low=65537", b"low=99999", b"low=100000",
+             b"low=4294967297", b"low=18446744073709551617", b"low=", b"low=00", b"low=01", b"low=02", b"low=1,1", b"low=1,", b"low=,1",
+             b"low=1;", b"low= 1", b"low=1 ", b"low=1\r", b"low=1\x00", b"low==1", b"low=x", b"low=h", b"low=+1", b"low=-1", b"low=1.0", b"low1",
+             b"low", b"low 1", b"low:1", b"lo=1", b"lows=1", b"llow=1", b"Low=1", b"LOW=1", b" low=1", b"", b"low=1\nlow=1", b"low=2\nlow=3",
+             b"low=1\n", b"low=2\npins=0,0,1", b"net=1"]
+
+
+def low_cases():
+    """C1 with each of these lines in its first and in its second net, and its start up to each byte of a `low` line; with enough of all
+    lent lengths, and with a short answer list."""
+    texts = [C1.replace(b"\npins=0,0,1;%d" % x, b"\n" + line + b"\npins=0,0,1;%d" % x) for line in LOW_LINES for x in (2, 1)]
+    whole = marked(C1, 1, 2)
+    texts += [whole[:size] for at in (b"low=1", b"low=2") for size in range(whole.index(at), whole.index(at) + 7)]
+    for text in texts:
+        for lent in (ROOMY, Lent(108, 2, 2, 390)):
+            yield Case("low", text, lent)
+
+
 # ---- small random jobs
 
 def working_need(width, height, layers):
@@ -108,11 +127,12 @@ def working_need(width, height, layers):
 
 
 class Draft:
-    """A job while it is made: its numbers, the letters of its `dirs` line or None, and for each net its pins (x, y, layer) and its
-    edges (x, y, way)."""
+    """A job while it is made: its numbers, the letters of its `dirs` line or None, for each net its pins (x, y, layer) and its
+    edges (x, y, way), and the number of its `low` line or None."""
 
-    def __init__(self, width, height, layers, dirs, weights, nets):
+    def __init__(self, width, height, layers, dirs, weights, nets, lows):
         self.width, self.height, self.layers, self.dirs, self.weights, self.nets = width, height, layers, dirs, weights, nets
+        self.lows = lows
         self.east = [[0] * ((width - 1) * height) for _ in range(layers)]
         self.north = [[0] * (width * (height - 1)) for _ in range(layers)]
 
@@ -121,7 +141,7 @@ class Draft:
         capacities = [(entry(east), entry(north)) for east, north in zip(self.east, self.north)]
         dirs = None if self.dirs is None else entry(self.dirs)
         return (header_lines(self.width, self.height, self.layers, *self.weights, capacities, dirs)
-                + net_lines(*[(entries(pins), entries(edges)) for pins, edges in self.nets]))
+                + net_lines(*[(entries(pins), entries(edges)) for pins, edges in self.nets], lows=self.lows))
 
     def text(self):
         return text_of(self.lines())
@@ -172,6 +192,13 @@ def random_dirs(rng, layers):
     return rng.choice([None] * 6 + [mixed] * 4 + [some, some[:1] * layers])
 
 
+def random_lows(rng, layers, net_count):
+    """The number of each net's `low` line: for all nets, for half of them, for few or for none; layers that are all 1, all K, or any."""
+    share = rng.choice([0, 0, 0.2, 0.5, 0.5, 1, 1])
+    least, most = rng.choice([(1, 1), (layers, layers), (1, layers), (2, layers), (2, layers)])
+    return [rng.randint(least, most) if rng.random() < share else None for _ in range(net_count)]
+
+
 def ways_of(dirs):
     """The ways of edges that some layer runs."""
     return "en" if dirs is None else [way for way, letter in zip("en", "hv") if letter in dirs]
@@ -220,7 +247,8 @@ def draft_on(rng, width, height, layers, net_count, most):
     third of the jobs some capacities are large."""
     dirs = random_dirs(rng, layers)
     nets = [random_net(rng, width, height, layers, ways_of(dirs)) for _ in range(net_count)]
-    draft = Draft(width, height, layers, dirs, [random_weight(rng) for _ in range(3)], nets)
+    lows = random_lows(rng, layers, net_count)
+    draft = Draft(width, height, layers, dirs, [random_weight(rng) for _ in range(3)], nets, lows)
     for capacities in draft.east + draft.north:
         capacities[:] = [rng.randint(0, most) for _ in capacities]
     if rng.random() < 1 / 3:
@@ -325,7 +353,7 @@ def changed_byte(rng):
     draft = random_draft(rng)
     text = bytearray(draft.text())
     at = rng.randrange(len(text))
-    byte = rng.choice([rng.randrange(256), text[at] ^ (1 << rng.randrange(8)), rng.choice(b"0123456789=,;enhv\n\r ")])
+    byte = rng.choice([rng.randrange(256), text[at] ^ (1 << rng.randrange(8)), rng.choice(b"0123456789=,;enhvlow\n\r ")])
     size, new = rng.choice([(1, [byte]), (1, [byte]), (0, [byte]), (1, [])])
     text[at:at + size] = new
     return bytes(text), program_or_plan(rng)
@@ -392,6 +420,20 @@ def changed_dirs(rng):
     at = rng.choice([3, 3, 3, rng.randrange(len(lines) + 1)])
     lines[at:at + (draft.dirs is not None and rng.random() < 0.8)] = [line]
     return text_of(lines), rng.choice([enough(rng, draft), short(rng, draft)])
+
+
+def changed_low(rng):
+    """A `low` line at the end of its range or beyond it, of wrong form, twice, or in another place."""
+    draft = draft_with(rng, lambda draft: draft.nets)
+    at, layers = rng.randrange(len(draft.nets)), draft.layers
+    good, wrong = [1, layers], ["", "x", "00", "01", f"0{layers}", "1,1", " 1", "1 ", "+1", "-1", 100_000, 4_294_967_297]
+    draft.lows[at] = rng.choice([rng.choice(good), 0, 0, layers + 1, layers + 1, rng.choice([9, 256, 257, 65_537, 99_999]), rng.choice(wrong),
+                                 rng.choice(wrong), f"{layers}\nlow={layers}"])
+    lines = draft.lines()
+    if rng.random() < 0.2:
+        line = lines.pop(lines.index(f"net={at + 1}") + 1)
+        lines.insert(rng.randrange(len(lines) + 1), line)
+    return text_of(lines), rng.choice([enough(rng, draft), enough(rng, draft), short(rng, draft)])
 
 
 def across(rng):
@@ -506,14 +548,14 @@ def text_after(rng):
 
 def two_faults(rng):
     """Two things wrong at once, and perhaps short lent lengths: what comes first decides."""
-    text, lent = rng.choice([changed_pins, changed_edges, apart, ring, out_of_turn, changed_capacities, across, no_layer])(rng)
+    text, lent = rng.choice([changed_pins, changed_edges, apart, ring, out_of_turn, changed_capacities, changed_low, across, no_layer])(rng)
     lent = rng.choice([lent, lent, Lent(0, 0, 0, 0), Lent(100_000, 0, 0, 0), Lent(100_000, 9, 0, 0)])
     return with_other_number(rng, text.decode()).encode(), lent
 
 
 # The ways, taken in turn. Plain jobs are many, since their order lists, plans and prints are compared.
 WAYS = [plain, cut, crowd, short_lent, changed_byte, program_job, changed_line, ring, tree, changed_number, apart, crowd,
-        changed_dirs, range_end, out_of_turn, program_job, changed_pins, short_at_the_end, across, plain, changed_edges, apart,
+        changed_dirs, range_end, changed_low, out_of_turn, program_job, changed_pins, short_at_the_end, across, plain, changed_edges, apart,
         tree, text_after, changed_capacities, no_layer, plain, two_faults, ring, crowd]
 
 
@@ -527,5 +569,5 @@ def random_cases(seed, count):
 
 def all_cases(seed, count):
     """The fixed texts, and so many random ones."""
-    return [*bench_cases(), *long_cases(), *cut_cases(), *line_cases(), *end_cases(), *border_cases(), *dirs_cases(),
+    return [*bench_cases(), *long_cases(), *cut_cases(), *line_cases(), *end_cases(), *border_cases(), *dirs_cases(), *low_cases(),
             *random_cases(seed, count)]

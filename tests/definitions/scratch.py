@@ -24,7 +24,7 @@ NAMES = {
 SHAPES = {
     "bytes": 'bytes "{}"',
     "lent": "record {{ working = {}; order = {}; answer = {}; print = {} }}",
-    "entry": "record {{ net = {}; score = {} }}",
+    "entry": "record {{ net = {}; low = {}; score = {} }}",
     "refusal": "refusal {} {}",
     "accepted": "accepted (record {{ order = {}; plan = {}; vias = {}; total = {}; maximum = {}; text = {} }})",
     "outcome": "outcome ({lent}) ({text})",

@@ -19,10 +19,18 @@ Lent = namedtuple("Lent", "working order answer print")
 # What a refused job leads to.
 Refusal = namedtuple("Refusal", "number line")
 
-# What an accepted job leads to: `order` holds the entries of the order list, (net number, score); `plan` each net's layers in the
-# order of its `edges` line, nets in job order; `text` is the print; `walks` are each net's edges in walk order, by edge number;
-# `brute` says whether the plan was held to demand 3 over all layerings of the job.
-Accepted = namedtuple("Accepted", "order plan vias total maximum text walks brute")
+
+class Accepted(namedtuple("Accepted", "order plan vias total maximum text walks brute")):
+    """What an accepted job leads to: `order` holds the entries of the order list, (net number, lowest wanted layer, score); `plan` each
+    net's layers in the order of its `edges` line, nets in job order; `text` is the print; `walks` are each net's edges in walk order,
+    by edge number; `brute` says whether the plan was held to demand 3 over all layerings of the job."""
+
+    @property
+    def ldof(self):
+        """The number on the last line of the print, None where that is no `ldof` line."""
+        key, number = self.text.splitlines()[-1].split("=")
+        return int(number) if key == "ldof" else None
+
 
 # The numbers in the table of refusals.
 NUMBERS = range(1, 14)

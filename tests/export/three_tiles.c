@@ -22,6 +22,7 @@ FIELD(layerplan_result, length, 8, 40);
 _Static_assert(sizeof(layerplan_result) == 48 && _Alignof(layerplan_result) == 8, "layerplan_result");
 
 FIELD(layerplan_entry, net, 4, 0);
+FIELD(layerplan_entry, low, 4, 4);
 FIELD(layerplan_entry, score, 8, 8);
 _Static_assert(sizeof(layerplan_entry) == 16 && _Alignof(layerplan_entry) == 8, "layerplan_entry");
 
@@ -91,11 +92,15 @@ static int same(layerplan_result r, uint64_t number, uint64_t line, uint64_t via
         && r.length == length;
 }
 
-/* The order list and the answer list of the job, and that nothing else was written. */
-static void expect_plan(void)
+/*
+ * The order list and the answer list of the job, where its first net wants this layer and up, and that nothing else was
+ * written.
+ */
+static void expect_plan(uint32_t low)
 {
     expect(all(work, 0, sizeof work, 0), "working numbers after a plan");
     expect(order[0].net == 2 && order[1].net == 1, "net numbers of the order list");
+    expect(order[0].low == 1 && order[1].low == low, "lowest wanted layers of the order list");
     expect(order[0].score == 3000 && order[1].score == 2500, "scores of the order list");
     expect(answer[0] == 2 && answer[1] == 1 && answer[2] == 1, "answer list");
     expect(all(order, NETS * sizeof *order, sizeof order, FILLED), "entries beyond the order list");
@@ -109,6 +114,19 @@ static void expect_refusal(void)
     expect(all(order, 0, sizeof order, FILLED), "order list after a refusal");
     expect(all(answer, 0, sizeof answer, FILLED), "answer list after a refusal");
     expect(all(print, 0, sizeof print, FILLED), "print buffer after a refusal");
+}
+
+/* Writes the job with the line `low=2` behind `net=1`. Returns its length. */
+static size_t put_low(uint8_t *marked, const uint8_t *job, size_t length)
+{
+    size_t at = 0;
+    while (at + 6 <= length && memcmp(job + at, "net=1\n", 6) != 0)
+        at++;
+    expect(at + 6 <= length, "the line `net=1` of the job");
+    memcpy(marked, job, at + 6);
+    memcpy(marked + at + 6, "low=2\n", 6);
+    memcpy(marked + at + 12, job + at + 6, length - at - 6);
+    return length + 6;
 }
 
 int main(int count, char **names)
@@ -129,7 +147,7 @@ int main(int count, char **names)
                            answer, ENTRIES + more);
         expect(same(r, 0, 0, 2, 0, 0, 0), "numbers of layerplan_plan");
         memset(work + WORK + more, 0, (MORE - more) * sizeof *work); /* not lent */
-        expect_plan();
+        expect_plan(1);
         expect(all(print, 0, sizeof print, FILLED), "print buffer after layerplan_plan");
 
         fill();
@@ -137,10 +155,26 @@ int main(int count, char **names)
                             answer, ENTRIES + more, print, PRINT + more);
         expect(same(r, 0, 0, 2, 0, 0, plan_length), "numbers of layerplan_print");
         memset(work + WORK + more, 0, (MORE - more) * sizeof *work);
-        expect_plan();
+        expect_plan(1);
         expect(memcmp(print, plan, plan_length) == 0, "printed text");
         expect(all(print, plan_length, sizeof print, FILLED), "bytes beyond the printed text");
     }
+
+    /* with a `low` line for the first net: the same plan, the layer in its entry, and one line more in the print */
+    static uint8_t marked[TEXT + 6];
+    size_t marked_length = put_low(marked, job, job_length);
+    fill();
+    r = layerplan_plan(marked, marked_length, work, WORK + MORE, order, NETS + MORE, answer, ENTRIES + MORE);
+    expect(same(r, 0, 0, 2, 0, 0, 0), "numbers of layerplan_plan with a `low` line");
+    expect_plan(2);
+    fill();
+    r = layerplan_print(marked, marked_length, work, WORK + MORE, order, NETS + MORE,
+                        answer, ENTRIES + MORE, print, PRINT + MORE);
+    expect(same(r, 0, 0, 2, 0, 0, plan_length + 7), "numbers of layerplan_print with a `low` line");
+    expect_plan(2);
+    expect(memcmp(print, plan, plan_length) == 0, "printed text with a `low` line");
+    expect(memcmp(print + plan_length, "ldof=0\n", 7) == 0, "last line of the printed text");
+    expect(all(print, plan_length + 7, sizeof print, FILLED), "bytes beyond the last line");
 
     /* no text, and buffers without elements: their pointers are not null */
     fill();

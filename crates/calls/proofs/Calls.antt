@@ -3,21 +3,22 @@
 use mathlib.Core.List.{List, _++_}
 use mathlib.Core.Option.{Option, some, none}
 use mathlib.Core.Path.{_≡_, refl, sym, ap, ap₂, _∙_, subst}
-use Prim.Native.Nat.{ℕ, zero, suc, _≤_}
+use Prim.Native.Nat.{ℕ, zero, suc, _%_, _≤_, _<_, max}
 use native.Mathlib.Omega.{arith}
 use lib.Dec.{T, leb→le}
 use lib.ListN.{length, drop, getD, replicate}
+use lib.Seq.{getD-set-other}
 use Rattle.head.specs.declared.Head.{Head}
-use Rattle.layout.specs.Table.{turnColumn, tableSize}
+use Rattle.layout.specs.Table.{turnColumn, viasColumn, tableSize, lowIn}
 use Rattle.model.specs.Calls.{refusal, outcomeOf, outcome, overwrite, stretches, plannedBy, Planned as PlannedBy, planLent, planCall, printedBy, Printed as PrintedBy, printLent, printCall}
 use Rattle.model.specs.Demand3.{Met}
-use Rattle.model.specs.Job.{Job, netCount, netEdges, entryCount}
+use Rattle.model.specs.Job.{Job, lowOf, netCount, netOf, netEdges, entryCount}
 use Rattle.model.specs.Limits.{mostNets}
 use Rattle.model.specs.Overflow.{totalOverflow, maxOverflow}
 use Rattle.model.specs.Plan.{plan}
 use Rattle.model.specs.Read.{Lent, Place, Result, refused, found, printNeed, printFits, read}
 use Rattle.model.specs.Score.{order}
-use Rattle.net.specs.Table.{Table, table-set, beside-tiles}
+use Rattle.net.specs.Table.{Table, mark-told, table-set, beside-tiles}
 use Rattle.planning.specs.Closing.{Turned, ToClose, ToPrint, PlanMade, PlanClosed, PrintClosed}
 use Rattle.planning.specs.Opening.{OpenFound, OpenTold, netsOf}
 use Rattle.planning.specs.declared.Opened.{Opened}
@@ -32,6 +33,7 @@ use Rattle.sort.specs.Placing.{order-count, sorted-order, turns-listed}
 use Rattle.sort.specs.Sorted.{Arranged}
 use Rattle.sort.specs.declared.Entry.{Entry}
 use Rattle.text.specs.Refusals.{numberOf, lineOf}
+use Rattle.theory.specs.links.Directives.{low-inside}
 use Rattle.theory.specs.links.Meets.{plan-call, print-call, plan-total-is, plan-maximum-both, plan-meets-demand3, print-meets-demand3}
 use Rattle.theory.specs.links.Reading.{Accepted, accepted}
 use Rattle.theory.specs.links.Room.{plan-long}
@@ -42,6 +44,12 @@ use Rattle.calls.specs.Calls.{buffersOf, returnedOf, planOf, sizeOf}
 rows-listed : (s : List ℕ) (j : Job) (es : List Entry) (table : List ℕ) (n : ℕ) → Table s j table → Table s j (listed es table n)
 rows-listed s j es table zero t = t
 rows-listed s j es table (suc k) t = table-set s j (listed es table k) (turnColumn k) (getD es k noEntry .net) (beside-tiles k) (rows-listed s j es table k t)
+
+-- and so are the lowest wanted layers
+lows-listed : (es : List Entry) (table : List ℕ) (n i : ℕ) → lowIn (listed es table n) i ≡ lowIn table i
+lows-listed es table zero i = refl
+lows-listed es table (suc k) i =
+    ap (λ (x : ℕ). x % 16) (getD-set-other (listed es table k) (turnColumn k) (viasColumn i) (getD es k noEntry .net) 0 (λ e. omega arith)) ∙ lows-listed es table k i
 
 -- ---- the order list is made in the lent entries
 
@@ -59,8 +67,11 @@ module _ (s : List ℕ) (lent : Lent) (w table : List ℕ) (ys os : List Entry) 
       room : h .nets ≤ length ys
       room = arrange-asked (Read-as h) e k .1
 
+      lows-told : (i : ℕ) → i < netCount (k .job) → max 1 (lowIn table i) ≡ lowOf (netOf (k .job) (suc i))
+      lows-told i b = ap (max 1) (k .scored .lows i b) ∙ mark-told (netOf (k .job) (suc i) .low) (low-inside (k .job) lent (k .given .accepted) i b .0)
+
       order-made : orderOf os ≡ overwrite (order (k .job)) (orderOf ys)
-      order-made = sorted-order (k .job) table (h .nets) (k .given .count) (k .scored .scores) lent (k .given .accepted) ys os room long (made .sorted)
+      order-made = sorted-order (k .job) table (h .nets) (k .given .count) (k .scored .scores) lows-told lent (k .given .accepted) ys os room long (made .sorted)
 
       turned : (size : ℕ) → entryCount (k .job) ≤ size → Turned s h w table′ size lent (k .job)
       turned size fits = record {
@@ -68,7 +79,8 @@ module _ (s : List ℕ) (lent : Lent) (w table : List ℕ) (ys os : List Entry) 
         rows = subst (Table s (k .job)) (sym (made .numbers)) (rows-listed s (k .job) os table (h .nets) (k .scored .rows));
         turns = λ i b.
             ap (λ (l : List ℕ). getD l (turnColumn i) 0) (made .numbers)
-            ∙ turns-listed (k .job) table (h .nets) (k .given .count) (k .scored .scores) lent (k .given .accepted) ys os room long (made .sorted) wide i b;
+            ∙ turns-listed (k .job) table (h .nets) (k .given .count) (k .scored .scores) lows-told lent (k .given .accepted) ys os room long (made .sorted) wide i b;
+        lows = λ i b. ap (λ (l : List ℕ). lowIn l i) (made .numbers) ∙ lows-listed os table (h .nets) i ∙ k .scored .lows i b;
         room = fits;
       }
 

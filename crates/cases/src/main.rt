@@ -3,6 +3,7 @@
 use libc::STDIN_FILENO;
 use libc::STDOUT_FILENO;
 use reader::JobRead;
+use reader::Lists;
 use reader::PrintRoom;
 ghost use mathlib.Core.Path.{_≡_};
 ghost use Prim.Native.Nat.{_<_, _≤_};
@@ -60,7 +61,13 @@ fn judge(
     ensures { λ r. ⌜ r ≡ toldIn (read (lentBy (length (now (w .entry))) order answer print) (now (s .entry))) ⌝ }
     ensures { λ _. ⌜ length (now (table .exit)) ≡ length (now (table .entry)) ⌝ }
 {
-    answer_told(reader::read_job(s, w, table, order, answer, print))
+    let head = reader::open_head(s, w, order);
+    let lists = Lists {
+        order,
+        answer,
+        print,
+    };
+    answer_told(reader::read_job(s, w, table, head, lists))
 }
 
 fn digit(b: u8) -> usize

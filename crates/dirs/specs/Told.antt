@@ -4,7 +4,7 @@ use mathlib.Core.List.{List}
 use mathlib.Core.Option.{Option}
 use Prim.Native.Nat.{ℕ, _+_}
 use Rattle.model.specs.Read.{Result, found}
-use Rattle.theory.specs.links.JobText.{dirsLines}
+use Rattle.theory.specs.links.JobText.{optionLines}
 use Rattle.text.specs.Refusals.{placeOf}
 use Rattle.layout.specs.Dirs.{dirsOf}
 use Rattle.lines.specs.Told.{refusedBy, After}
@@ -18,5 +18,5 @@ dirsTold k s (Undirected r) = refusedBy r
 
 -- the next line comes in a text of this size after `line` others, and after the line `dirs` where it stands
 abbrev pub dirsHold : ℕ → ℕ → ℕ → DirsRead → Type 0
-dirsHold size line k (dirs d c) = After size (line + dirsLines (dirsOf k d)) c
+dirsHold size line k (dirs d c) = After size (line + optionLines (dirsOf k d)) c
 dirsHold size line k (Undirected r) = Unit {0}

@@ -10,7 +10,7 @@ use Rattle.model.specs.Grid.{gridEdges}
 use Rattle.model.specs.Limits.{mostNets}
 use Rattle.model.specs.Read.{workingNeed}
 use Rattle.text.specs.declared.Cursor.{Cursor}
-use Rattle.theory.specs.links.JobText.{dirsLines}
+use Rattle.theory.specs.links.JobText.{optionLines}
 use Rattle.layout.specs.Dirs.{dirsOf}
 use Rattle.layout.specs.Shapes.{Shaped}
 use Rattle.layout.specs.declared.Dirs.{Dirs}
@@ -32,10 +32,10 @@ use Rattle.head.specs.declared.Weighed.the-variants.{Weights as weighed}
 use Rattle.head.specs.declared.Weights.{Weights}
 
 module _ (size line : ℕ) (c : Cursor) where
-  pub dirs-after : (r : DirsRead) (k : ℕ) (d : Dirs) → r ≡ directed d c → dirsHold size line k r → After size (line + dirsLines (dirsOf k d)) c
+  pub dirs-after : (r : DirsRead) (k : ℕ) (d : Dirs) → r ≡ directed d c → dirsHold size line k r → After size (line + optionLines (dirsOf k d)) c
   dirs-after r k d e h = rw e at h
 
-  pub sizes-hold : (r : Sizes) (g : Shape) → r ≡ sized g c → sizesHold size line r → Shaped g × After size (line + dirsLines (dirsOf (g .k) (g .dirs))) c
+  pub sizes-hold : (r : Sizes) (g : Shape) → r ≡ sized g c → sizesHold size line r → Shaped g × After size (line + optionLines (dirsOf (g .k) (g .dirs))) c
   sizes-hold r g e h = rw e at h
 
   pub weights-hold : (r : Weighed) (v : Weights) → r ≡ weighed v c → weightsHold size line r → Small v × After size line c

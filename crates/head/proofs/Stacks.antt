@@ -7,7 +7,7 @@ use native.Mathlib.Omega.{arith}
 use borrow.Author.Tests.{ltb-true, ltb-false}
 use lib.Dec.{ltb}
 use Rattle.model.specs.Read.{Place, Result, refused, found, next, dirsLine}
-use Rattle.theory.specs.links.JobText.{dirsLines}
+use Rattle.theory.specs.links.JobText.{optionLines}
 use Rattle.text.specs.declared.Cursor.{Cursor}
 use Rattle.layout.specs.Dirs.{dirsOf}
 use Rattle.layout.specs.Shapes.{stackOf, shapeOf, sizesOf}
@@ -70,6 +70,6 @@ module _ (W H K : ℕ) (p : Place) where
   unfolding waysIn
   ways-found d q g s e = ap (λ (x : Shape). found (sizesOf x) q) s ∙ sym (rw e)
 
-pub ways-hold : (size line K : ℕ) (d : Dirs) (W H : ℕ) (g : Shape) (c : Cursor) → g ≡ shapeOf W H K d → After size (line + dirsLines (dirsOf K d)) c
-    → After size (line + dirsLines (dirsOf (g .k) (g .dirs))) c
-ways-hold size line K d W H g c s h = subst (λ (x : Shape). After size (line + dirsLines (dirsOf (x .k) (x .dirs))) c) (sym s) h
+pub ways-hold : (size line K : ℕ) (d : Dirs) (W H : ℕ) (g : Shape) (c : Cursor) → g ≡ shapeOf W H K d → After size (line + optionLines (dirsOf K d)) c
+    → After size (line + optionLines (dirsOf (g .k) (g .dirs))) c
+ways-hold size line K d W H g c s h = subst (λ (x : Shape). After size (line + optionLines (dirsOf (x .k) (x .dirs))) c) (sym s) h

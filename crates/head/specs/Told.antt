@@ -7,7 +7,7 @@ use lib.ListN.{length, drop}
 use Rattle.model.specs.Limits.{mostWeight, mostNets}
 use Rattle.model.specs.Read
 use Rattle.model.specs.Read.{Result, found, next, Lent, workingNeed, read}
-use Rattle.theory.specs.links.JobText.{dirsLines, headLines}
+use Rattle.theory.specs.links.JobText.{optionLines, headLines}
 use Rattle.layout.specs.Dirs.{dirsOf}
 use Rattle.layout.specs.Shapes.{sizesOf, Shaped}
 use Rattle.layout.specs.declared.Shape.{Shape}
@@ -35,7 +35,7 @@ sizesTold s (Unsized r) = refusedBy r
 
 -- the next line comes after `line` others, and after the line `dirs` where it stands
 abbrev pub sizesHold : ℕ → ℕ → Sizes → Type 0
-sizesHold size line (sized g c) = Shaped g × After size (line + dirsLines (dirsOf (g .k) (g .dirs))) c
+sizesHold size line (sized g c) = Shaped g × After size (line + optionLines (dirsOf (g .k) (g .dirs))) c
 sizesHold size line (Unsized r) = Unit {0}
 
 pub record Small (v : Weights) : Type 0 where

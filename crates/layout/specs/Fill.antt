@@ -2,7 +2,7 @@
 -- Assumes nothing.
 use mathlib.Core.List.{List}
 use mathlib.Core.Path.{_≡_, _∙_}
-use Prim.Native.Nat.{ℕ, _+_, _<_}
+use Prim.Native.Nat.{ℕ, _+_, _-_, _≤_, _<_}
 use native.Mathlib.Decide.{ℕ-discrete}
 use native.Mathlib.Omega.{arith}
 use lib.ListN.{length, getD, set}
@@ -28,3 +28,8 @@ filled-next a n f w w′ v d room e = record {
     go : (i : ℕ) → i < n + 1 → Dec (i ≡ n) → getD (set w′ (a + n) v) (a + i) 0 ≡ f i
     go i h (yes p) = rw p (getD-set-same w′ (a + n) v 0 (omega (arith, d .outside .long)) ∙ e)
     go i h (no p) = getD-set-other w′ (a + n) (a + i) v 0 (λ q. p (omega arith)) ∙ d .each i (omega arith)
+
+-- the numbers from a up to b are zero, and the others are as they were
+pub record PartCleared (a b : ℕ) (w w′ : List ℕ) : Type 0 where
+  pub outside : Outside a (b - a) w w′
+  pub zeros : (k : ℕ) → a ≤ k → k < b → getD w′ k 0 ≡ 0

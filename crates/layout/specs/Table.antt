@@ -39,9 +39,13 @@ countColumn i = netColumns * i + 4
 abbrev pub viasColumn : ℕ → ℕ
 viasColumn i = netColumns * i + 5
 
--- the score of net i, in halves, from when it is known to when the order list stands
+-- Until then that place has, in its last four bits, the lowest wanted layer of net i, 0 where it has no line `low`; and above them, from when it is known to when the
+-- order list stands, the upper half of the score, whose lower half stands in the place of the tiles.
+abbrev pub lowIn : List ℕ → ℕ → ℕ
+lowIn table i = getD table (viasColumn i) 0 % 16
+
 abbrev pub scoreIn : List ℕ → ℕ → ℕ
-scoreIn table i = getD table (tilesColumn i) 0 + 4_294_967_296 * getD table (viasColumn i) 0
+scoreIn table i = getD table (tilesColumn i) 0 + 4_294_967_296 * (getD table (viasColumn i) 0 / 16)
 
 abbrev pub scorePut : List ℕ → ℕ → ℕ → List ℕ
-scorePut table i v = set (set table (tilesColumn i) (v % 4_294_967_296)) (viasColumn i) (v / 4_294_967_296)
+scorePut table i v = set (set table (tilesColumn i) (v % 4_294_967_296)) (viasColumn i) (lowIn table i + 16 * (v / 4_294_967_296))

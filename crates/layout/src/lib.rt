@@ -1,15 +1,16 @@
 // The stack of layers, the grid of tiles, and where each thing stands in the working numbers.
 ghost use mathlib.Core.Path.{_≡_};
-ghost use Prim.Native.Nat.{ℕ, _+_, _-_, _*_, _<_, _≤_};
+ghost use Prim.Native.Nat.{ℕ, _+_, _-_, _*_, _^_, _<_, _≤_};
 ghost use Rattle.model.specs.Job.{runs as runsIn};
 ghost use Rattle.model.specs.Limits.{mostLayers, mostNets};
 ghost use Rattle.model.specs.Lists.{upFrom, bit, any, keep};
 ghost use Rattle.model.specs.Read.{workingNeed};
 ghost use Rattle.layout.specs.Dirs.{dirsOf};
+ghost use Rattle.layout.specs.Fill.{PartCleared};
 ghost use Rattle.layout.specs.Shapes.{stackOf, shapeOf, Shaped, wayOf, WayRoom};
 ghost use Rattle.layout.specs.Areas.{loadsAt, demandAt, flatAt, tilesAt, linksAt, chosenAt, listAt, stopsAt, aboveAt, engineAt};
 ghost use lib.ListN.{length, replicate};
-ghost use Rattle.layout.specs.Table.{pinsColumn, edgesColumn, tilesColumn, turnColumn, firstColumn, countColumn, viasColumn, tableSize, scoreIn, scorePut};
+ghost use Rattle.layout.specs.Table.{pinsColumn, edgesColumn, tilesColumn, turnColumn, firstColumn, countColumn, viasColumn, tableSize, lowIn, scoreIn, scorePut};
 
 // K layers. "Limits belong to the stack".
 pub struct Stack {
@@ -361,6 +362,16 @@ pub fn vias_column(i: usize) -> usize
     COLUMNS * i + 5
 }
 
+// ---- until a net is placed, its lowest wanted layer stands in the last four bits of the place of its vias, 0 where it has no line `low`
+
+pub fn low_in(table: &[u32], i: usize) -> u32
+    requires { ⌜ (i < mostNets) × (tableSize ≤ length (now table)) ⌝ }
+    ensures { λ r. ⌜ r ≡ lowIn (now (table .entry)) i ⌝ }
+    ensures { λ r. ⌜ r < 16 ⌝ }
+{
+    table[vias_column(i)] % 16
+}
+
 // ---- the score of a net, from when it is known to when the order list stands: its halves take the places of the pins' tiles and of the vias
 
 fn wide(x: u32) -> u64
@@ -374,19 +385,21 @@ pub fn score_in(table: &[u32], i: usize) -> u64
     ensures { λ r. ⌜ r ≡ scoreIn (now (table .entry)) i ⌝ }
 {
     let low = wide(table[tiles_column(i)]);
-    let high = wide(table[vias_column(i)]);
+    let high = wide(table[vias_column(i)] / 16);
     low + 4294967296 * high
 }
 
 pub fn put_score(table: &mut [u32], i: usize, v: u64)
-    requires { ⌜ (i < mostNets) × (tableSize ≤ length (now table)) ⌝ }
+    requires { ⌜ (i < mostNets) × (tableSize ≤ length (now table)) × (v < 2 ^ 60) ⌝ }
     ensures { λ _. ⌜ now (table .exit) ≡ scorePut (now (table .entry)) i v ⌝ }
 {
+    let wanted = low_in(table, i);
+    let high = (v / 4294967296) as u32;
     table[tiles_column(i)] = (v % 4294967296) as u32;
-    table[vias_column(i)] = (v / 4294967296) as u32;
+    table[vias_column(i)] = wanted + 16 * high;
 }
 
-// ---- all of them
+// ---- zeros
 
 // Zeroes the whole slice.
 pub fn clear(w: &mut [u32])
@@ -397,4 +410,12 @@ pub fn clear(w: &mut [u32])
         w[i] = 0;
         i += 1;
     }
+}
+
+// Zeroes the numbers from `from` up to `to`.
+pub fn clear_part(w: &mut [u32], from: usize, to: usize)
+    requires { ⌜ (from ≤ to) × (to ≤ length (now w)) ⌝ }
+    ensures { λ _. ⌜ PartCleared from to (now (w .entry)) (now (w .exit)) ⌝ }
+{
+    clear(&mut w[from..to]);
 }

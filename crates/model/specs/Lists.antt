@@ -59,6 +59,11 @@ module _ {A : Type 0} where
   keep p [] = []
   keep p (x ∷ xs) = let r = keep p xs in cond (p x) (x ∷ r) r
 
+  -- how many pass
+  abbrev pub count : (A → Bool) → List A → ℕ
+  count p [] = 0
+  count p (x ∷ xs) = bit (p x) + count p xs
+
   -- two elements are equal, by the test given
   abbrev pub twice : (A → A → Bool) → List A → Bool
   twice equal [] = false

@@ -12,7 +12,7 @@ use Rattle.marks.specs.Marks.{Older}
 use Rattle.model.specs.Job.{Job, netCount}
 use Rattle.model.specs.Overflow.{flatDemand}
 use Rattle.net.specs.SoFar.{Capacities}
-use Rattle.net.specs.Table.{Table, PinTiles}
+use Rattle.net.specs.Table.{Table, PinTiles, Marks}
 
 pub record Checked (s : List ℕ) (g : Shape) (j : Job) (w table : List ℕ) : Type 0 where
   pub shape : g ≡ shapeOf (j .width) (j .height) (j .layers) (g .dirs)
@@ -28,3 +28,4 @@ pub record Checked (s : List ℕ) (g : Shape) (j : Job) (w table : List ℕ) : T
   pub marks : Older (suc (netCount j)) (tilesOf g w)
   pub rows : Table s j table
   pub pin-tiles : PinTiles j table
+  pub lows : Marks j table

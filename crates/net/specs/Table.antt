@@ -2,21 +2,23 @@
 -- Assumes nothing.
 use mathlib.Core.Bool.{true}
 use mathlib.Core.List.{List, map}
-use mathlib.Core.Option.{some}
+use mathlib.Core.Option.{Option, none, some}
 use mathlib.Core.Logic.{_≢_}
 use mathlib.Core.Path.{_≡_, sym, subst, _∙_}
-use Prim.Native.Nat.{ℕ, suc, _≤_, _<_}
+use Prim.Native.Nat.{ℕ, suc, _%_, _≤_, _<_, max}
 use native.Mathlib.Omega.{arith}
 use lib.ListN.{length, drop, getD, set, length-set}
 use lib.Seq.{getD-set-other}
-use Rattle.layout.specs.Table.{pinsColumn, edgesColumn, tilesColumn, turnColumn, firstColumn, countColumn, viasColumn, tableSize}
-use Rattle.model.specs.Job.{Net, Job, netCount, netOf, netEdges}
+use Rattle.layout.specs.Table.{pinsColumn, edgesColumn, tilesColumn, turnColumn, firstColumn, countColumn, viasColumn, lowIn, tableSize}
+use Rattle.model.specs.Job.{Net, Job, lowFrom, netCount, netOf, netEdges}
+use Rattle.model.specs.Limits.{mostLayers}
 use Rattle.model.specs.Lists.{all}
 use Rattle.model.specs.Read.{Triple, pinInside, pinAt, edgeInside, edgeAt}
 use Rattle.model.specs.Score.{differentTiles, order}
 use Rattle.model.specs.Text.{cutLine}
 use Rattle.scan.specs.Pins.{pinsOf}
 use Rattle.scan.specs.Ways.{edgesCut}
+use Rattle.theory.specs.links.Placing.{entryAt}
 use Rattle.theory.specs.links.Stretches.{offset}
 
 -- the entries of a `pins` line stand at p, and are the pins ps
@@ -50,9 +52,28 @@ pub record Table (s : List ℕ) (j : Job) (table : List ℕ) : Type 0 where
 abbrev pub PinTiles : Job → List ℕ → Type 0
 PinTiles j table = (i : ℕ) → i < netCount j → getD table (tilesColumn i) 0 ≡ differentTiles (netOf j (suc i) .pins)
 
+-- the lowest wanted layer of a net as a number: 0 where it has no line `low`
+abbrev pub markOf : Option ℕ → ℕ
+markOf none = 0
+markOf (some l) = l
+
+-- the lowest wanted layer of each net, from when its lines are read to when it is placed
+abbrev pub Marks : Job → List ℕ → Type 0
+Marks j table = (i : ℕ) → i < netCount j → lowIn table i ≡ markOf (netOf j (suc i) .low)
+
+-- the number stands in four bits
+pub mark-stays : (v : ℕ) (o : Option ℕ) → v ≡ markOf o → lowFrom o ≤ mostLayers → v % 16 ≡ markOf o
+mark-stays v none e h = let z : v ≡ 0 = e in omega arith
+mark-stays v (some l) e h = let z : v ≡ l = e in omega arith
+
+-- and says what the order list is told
+pub mark-told : (o : Option ℕ) → 1 ≤ lowFrom o → max 1 (markOf o) ≡ lowFrom o
+mark-told none h = omega arith
+mark-told (some l) h = omega arith
+
 -- the net whose turn is k, once the order list stands
 abbrev pub TurnsIn : Job → List ℕ → Type 0
-TurnsIn j table = (k : ℕ) → k < netCount j → getD table (turnColumn k) 0 ≡ getD (order j) k (record { net = 0; score = 0 }) .net
+TurnsIn j table = (k : ℕ) → k < netCount j → getD table (turnColumn k) 0 ≡ entryAt (order j) k .net
 
 -- ---- a number is written beside what the rows say
 

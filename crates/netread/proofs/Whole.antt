@@ -35,6 +35,10 @@ one-pins : (s : List ℕ) (W H K p : ℕ) (m n : Net) → PinsAt s W H K p m →
 one-pins s W H K p m n a b =
     sym (a .are) ∙ ap (map (pinAt W)) (one-line (a .entries) (b .entries) (a .rest) (b .rest) (sym (a .there) ∙ b .there)) ∙ b .are
 
+-- what is at hand of a net are its pins and its edges
+hand-of : (g : Shape) (n : ℕ) (net : Net) (w : List ℕ) → AtHand g n (netWith (net .pins) (net .edges)) w → AtHand g n net w
+hand-of g n net w h = record { fits = h .fits; pins = h .pins; ways = h .ways; list = h .list }
+
 module _ (s : List ℕ) (g : Shape) (p q : ℕ) (shaped : Shaped g) (there : NetThere s g p q) where
   pub pins-are : PinsThere s g p
   pins-are = record { net = there .net; pins = there .pins }
@@ -82,7 +86,7 @@ module _ (s : List ℕ) (g : Shape) (p q : ℕ) (shaped : Shaped g) (there : Net
           let e = edges-marked net (lines .edges) in
           let same = one-pins s (g .w) (g .h) (g .k) p (there .net) net (there .pins) (lines .pins) in
           record {
-            hand = rw same at (e .hand (there .net .pins) (hand older));
+            hand = hand-of g n net w′ (rw same at (e .hand (there .net .pins) (hand older)));
             count = e .count;
             root =
                 e .lowest

@@ -1,6 +1,7 @@
 -- The edges of a net that is read again.
 -- Assumes nothing.
 use mathlib.Core.List.{List, [], map}
+use mathlib.Core.Option.{none}
 use mathlib.Core.Path.{_≡_, _∙_}
 use Prim.Native.Nat.{ℕ, _+_, _≤_, _<_, min}
 use lib.ListN.{length, getD}
@@ -43,7 +44,7 @@ pub record EdgeMarked (g : Shape) (n : ℕ) (t : Triple) (v : Again) (w w′ : L
 
 -- a net with these pins and edges
 abbrev pub netWith : List Pin → List ℕ → Net
-netWith ps es = record { pins = ps; edges = es }
+netWith ps es = record { low = none; pins = ps; edges = es }
 
 -- The edges es are marked and listed. From the pins on, the working numbers then hold the net; low is the lowest tile before.
 pub record EdgesMarked (g : Shape) (n low : ℕ) (es : List ℕ) (w w′ : List ℕ) (r : Again) : Type 0 where

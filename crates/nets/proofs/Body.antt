@@ -3,9 +3,9 @@
 use mathlib.Core.List.{List, []}
 use mathlib.Core.Option.{Option}
 use mathlib.Core.Path.{_≡_, refl, sym, ap, ap₂, _∙_, subst}
-use Prim.Native.Nat.{ℕ, _+_, _*_, _≤_, _<_}
+use Prim.Native.Nat.{ℕ, zero, suc, _+_, _*_, _≤_, _<_}
 use native.Mathlib.Omega.{arith}
-use lib.ListN.{length, drop}
+use lib.ListN.{length, drop, getD}
 use Rattle.edges.specs.Line.{LineFound, LineRead}
 use Rattle.edges.specs.Pins.{PinsFound, pins-found, pins-reading, pins-tiles, pins-begun}
 use Rattle.edges.specs.Reading.{linksOf, edgesOn, Reading, Few, Begun}
@@ -16,7 +16,7 @@ use Rattle.layout.specs.Areas.{demandAt, tilesAt, chosenAt, tilesOf}
 use Rattle.layout.specs.Dirs.{dirsOf}
 use Rattle.layout.specs.Parts.{Outside}
 use Rattle.layout.specs.Shapes.{sizesOf, Shaped}
-use Rattle.layout.specs.Table.{tableSize}
+use Rattle.layout.specs.Table.{viasColumn, tableSize}
 use Rattle.layout.specs.declared.Shape.{Shape}
 use Rattle.lines.specs.Told.{After, mapped, refusedBy}
 use Rattle.marks.specs.Marks.{fits-older}
@@ -24,7 +24,7 @@ use Rattle.model.specs.Job.{Net}
 use Rattle.model.specs.Limits.{mostNets}
 use Rattle.model.specs.Read.{Place, Result, refused, found, pinsLine, edgesLine}
 use Rattle.model.specs.Score.{differentTiles}
-use Rattle.net.specs.Table.{PinsAt, EdgesAt}
+use Rattle.net.specs.Table.{PinsAt, EdgesAt, markOf}
 use Rattle.pins.specs.Pins.{pinsIn, pinsTold, pinsMarked}
 use Rattle.pins.specs.declared.Pins.{Pins}
 use Rattle.pins.specs.declared.PinsRead.{PinsRead}
@@ -41,7 +41,7 @@ use Rattle.theory.specs.links.Stacked.{pin-tiles-few}
 use Rattle.theory.specs.walk.GridNet.{net-room}
 use Rattle.union.specs.Links.{links-older}
 use Rattle.nets.specs.Rows.{rowPut}
-use Rattle.nets.specs.Nets.{bodyIn, NetReady, NetCounted, NetFound}
+use Rattle.nets.specs.Nets.{lowAt, bodyIn, NetReady, NetCounted, NetFound}
 use Rattle.nets.proofs.Stand.{pins-stand, row-long, row-others, row-stands}
 
 -- a net whose two lines the definitions found
@@ -66,6 +66,11 @@ net-ok g net p q r t a b =
       reached = y .3;
     }
 
+-- the number of a lowest wanted layer
+mark-is : (m : ℕ) → m ≡ markOf (lowAt m)
+mark-is zero = refl
+mark-is (suc m) = refl
+
 -- it has fewer edges than there are tiles
 pub few-edges : (g : Shape) → Shaped g → (net : Net) → NetOk (g .w) (g .h) (g .k) net → length (net .edges) < mostNets
 few-edges g shaped net ok =
@@ -87,7 +92,7 @@ module _ {A B : Type 0} where
 pub line-in : (size from line : ℕ) (r : PinsRead) (p : Pins) (d : Cursor) → r ≡ PinsLine p d → pinsIn size from line r → (p .from ≡ from) × After size line d
 line-in size from line r p d k h = rw k at h
 
-module _ (s : List ℕ) (c : Cursor) (g : Shape) (shaped : Shaped g) (i : ℕ) (w₀ : List ℕ) (ready : NetReady g i w₀) where
+module _ (s : List ℕ) (c : Cursor) (g : Shape) (shaped : Shaped g) (i : ℕ) (w₀ : List ℕ) (ready : NetReady g i w₀) (m : ℕ) where
   abbrev W : ℕ
   W = g .w
 
@@ -99,7 +104,7 @@ module _ (s : List ℕ) (c : Cursor) (g : Shape) (shaped : Shaped g) (i : ℕ) (
 
   -- the `pins` line is refused
   pub pins-bad : (a : List ℕ) (r : PinsRead) → pinsTold s a r ≡ mapped (pinsMarked (i + 1) (tilesOf g w₀)) (pinsLine (sizesOf g) (placeOf s c))
-      → (f : Refusal) → r ≡ BadPins f → bodyIn (sizesOf g) (placeOf s c) ≡ refusedBy f
+      → (f : Refusal) → r ≡ BadPins f → bodyIn (sizesOf g) (lowAt m) (placeOf s c) ≡ refusedBy f
   unfolding bodyIn
   pins-bad a r told f e =
       rw (mapped-refused (pinsMarked (i + 1) (tilesOf g w₀)) (pinsLine (sizesOf g) (placeOf s c)) (numberOf f) (lineOf f) (ap (pinsTold s a) (sym e) ∙ told))
@@ -127,16 +132,16 @@ module _ (s : List ℕ) (c : Cursor) (g : Shape) (shaped : Shaped g) (i : ℕ) (
         (pins-reading g (i + 1) (fine .pins) (fine .fit) w₀ w₁ (ready .room) (λ t. omega (arith, ready .marks t)) (λ t. omega (arith, ready .links t)) out (fine .marks))
 
     -- the `edges` line is refused
-    pub edges-bad : (w₂ : List ℕ) (r : EdgesRead) → LineRead g (i + 1) s d (fine .pins) w₀ w₂ r → (f : Refusal) → r ≡ BadEdges f → bodyIn (sizesOf g) (placeOf s c) ≡ refusedBy f
+    pub edges-bad : (w₂ : List ℕ) (r : EdgesRead) → LineRead g (i + 1) s d (fine .pins) w₀ w₂ r → (f : Refusal) → r ≡ BadEdges f → bodyIn (sizesOf g) (lowAt m) (placeOf s c) ≡ refusedBy f
     unfolding bodyIn
     edges-bad w₂ r line f e = rw (fine .is, subst (λ (z : EdgesRead). LineRead g (i + 1) s d (fine .pins) w₀ w₂ z) e line)
 
     -- it is fine
     module _ (w₂ : List ℕ) (e : Edges) (f : Cursor) (line : LineFound g (i + 1) s d (fine .pins) w₀ w₂ e f) where
       abbrev net : Net
-      net = record { pins = fine .pins; edges = edgesOn g (line .line .entries) }
+      net = record { low = lowAt m; pins = fine .pins; edges = edgesOn g (line .line .entries) }
 
-      pub ok : NetOk (g .w) (g .h) (g .k) (record { pins = fine .pins; edges = edgesOn g (line .line .entries) })
+      pub ok : NetOk (g .w) (g .h) (g .k) (record { low = lowAt m; pins = fine .pins; edges = edgesOn g (line .line .entries) })
       ok = net-ok g net (placeOf s c) _ _ _ (fine .is) (line .is)
 
       tiles-are : p .tiles ≡ differentTiles (fine .pins)
@@ -147,7 +152,7 @@ module _ (s : List ℕ) (c : Cursor) (g : Shape) (shaped : Shaped g) (i : ℕ) (
       pub pins-number : p .tiles ≤ 16777216
       pins-number = omega (arith, tiles-are, pin-tiles-few (fine .pins), pins-few W H K net (shaped .k-most) ok, shaped .t-is, shaped .t-most)
 
-      stands : EdgesAt s (g .w) (g .h) (e .from) (record { pins = fine .pins; edges = edgesOn g (line .line .entries) })
+      stands : EdgesAt s (g .w) (g .h) (e .from) (record { low = lowAt m; pins = fine .pins; edges = edgesOn g (line .line .entries) })
       stands = record {
         entries = line .line .entries;
         rest = drop (f .at) s;
@@ -159,7 +164,7 @@ module _ (s : List ℕ) (c : Cursor) (g : Shape) (shaped : Shaped g) (i : ℕ) (
       pub edges-number : e .entries ≤ mostNets
       edges-number = omega (arith, line .line .count-is, few-edges g shaped net ok)
 
-      counted : NetCounted g i (record { pins = fine .pins; edges = edgesOn g (line .line .entries) }) w₀ w₂
+      counted : NetCounted g i (record { low = lowAt m; pins = fine .pins; edges = edgesOn g (line .line .entries) }) w₀ w₂
       counted =
           let r = line .line .reading in
           record {
@@ -170,10 +175,10 @@ module _ (s : List ℕ) (c : Cursor) (g : Shape) (shaped : Shaped g) (i : ℕ) (
             links = λ t. omega (arith, links-older (i + 1) (linksOf g w₂) (r .links) t);
           }
 
-      pub body-found : (table : List ℕ) (first : ℕ) → tableSize ≤ length table
-          → NetFound s g i first (c .line + 2) w₀ w₂ table (rowPut table i (p .from) (e .from) (p .tiles) first (e .entries)) (bodyIn (sizesOf g) (placeOf s c)) f (e .entries)
+      pub body-found : (table : List ℕ) (first : ℕ) → tableSize ≤ length table → getD table (viasColumn i) 0 ≡ m
+          → NetFound s g i first (λ _. c .line + 2) w₀ w₂ table (rowPut table i (p .from) (e .from) (p .tiles) first (e .entries)) (bodyIn (sizesOf g) (lowAt m) (placeOf s c)) f (e .entries)
       unfolding bodyIn
-      body-found table first room = record {
+      body-found table first room low = record {
         net = net;
         is = rw (fine .is, line .is);
         after = record { place = line .line .after .place; lines = omega (arith, line .line .after .lines, at .1 .lines) };
@@ -181,7 +186,7 @@ module _ (s : List ℕ) (c : Cursor) (g : Shape) (shaped : Shaped g) (i : ℕ) (
         counted = counted;
         row =
             row-stands table i (p .from) (e .from) (p .tiles) first (e .entries) (ready .turn) room s W H K net
-            (subst (λ (m : ℕ). PinsAt s W H K m net) (sym (at .0)) (pins-stand s W H K (c .at) net (c .line) _ (dirsOf (g .k) (g .dirs)) (fine .is))) stands tiles-are (line .line .count-is);
+            (subst (λ (m : ℕ). PinsAt s W H K m net) (sym (at .0)) (pins-stand s W H K (c .at) net (c .line) _ (dirsOf (g .k) (g .dirs)) (fine .is))) stands tiles-are (line .line .count-is) (low ∙ mark-is m);
         table-long = row-long table i (p .from) (e .from) (p .tiles) first (e .entries) (ready .turn) room;
         rows-before = row-others table i (p .from) (e .from) (p .tiles) first (e .entries) (ready .turn) room;
       }

@@ -3,3 +3,4 @@ mod Stores
 mod Stand
 mod Body
 pub mod Loop
+pub mod Lows

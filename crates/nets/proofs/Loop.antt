@@ -11,11 +11,11 @@ use Rattle.layout.specs.Areas.{demandAt, tilesAt, linksAt, chosenAt}
 use Rattle.layout.specs.Dirs.{dirsOf}
 use Rattle.layout.specs.Parts.{part, part-at}
 use Rattle.layout.specs.Shapes.{sizesOf, Shaped, mostTiles}
-use Rattle.layout.specs.Table.{pinsColumn, edgesColumn, tilesColumn, firstColumn, countColumn}
+use Rattle.layout.specs.Table.{pinsColumn, edgesColumn, tilesColumn, firstColumn, countColumn, viasColumn}
 use Rattle.layout.specs.declared.Shape.{Shape}
 use Rattle.lines.specs.Told.{refusedBy}
 use Rattle.marks.specs.Words.{stampUnit}
-use Rattle.model.specs.Job.{Net, lengths}
+use Rattle.model.specs.Job.{Net, noNet, lengths}
 use Rattle.model.specs.Limits.{mostNets}
 use Rattle.model.specs.Lists.{occurs}
 use Rattle.model.specs.Overflow.{demand}
@@ -24,11 +24,12 @@ use Rattle.net.specs.Table.{PinsAt, EdgesAt}
 use Rattle.text.specs.Refusals.{placeOf}
 use Rattle.text.specs.declared.Cursor.{Cursor}
 use Rattle.text.specs.declared.Refusal.{Refusal}
+use Rattle.theory.specs.links.JobText.{optionLines, netsLines, lines-few, lines-snoc}
 use Rattle.theory.specs.links.Nets.{NetOk, EachNet}
 use Rattle.theory.specs.links.Reading.{NetFine, gives-found, net-gives}
 use Rattle.theory.specs.links.Stretches.{offset}
 use Rattle.nets.specs.Rows.{RowAt}
-use Rattle.nets.specs.Nets.{NetReady, NetFound, SoRead, NetsReady, NetsFound, edgesOf, noNet, ahead}
+use Rattle.nets.specs.Nets.{NetReady, NetFound, SoRead, NetsReady, NetsFound, edgesOf, ahead}
 use Rattle.nets.proofs.Body.{few-edges}
 
 -- ---- lists with one net more at the end
@@ -84,6 +85,7 @@ row-kept s W H K t t′ i k first net b h r = record {
   pin-tiles = h (tilesColumn k) (omega arith) ∙ r .pin-tiles;
   edge-count = h (countColumn k) (omega arith) ∙ r .edge-count;
   first-is = h (firstColumn k) (omega arith) ∙ r .first-is;
+  low-is = h (viasColumn k) (omega arith) ∙ r .low-is;
 }
 
 module _ (s : List ℕ) (g : Shape) (shaped : Shaped g) where
@@ -124,7 +126,7 @@ module _ (s : List ℕ) (g : Shape) (shaped : Shaped g) where
       few = λ k l. omega (arith, so .demands k l, demand-few g shaped k ns (so .ok));
     }
 
-    module _ (i : ℕ) (count-is : length ns ≡ i) (line : ℕ) (w′ table′ : List ℕ) (p : Place) (c : Cursor) (count : ℕ)
+    module _ (i : ℕ) (count-is : length ns ≡ i) (line : Net → ℕ) (w′ table′ : List ℕ) (p : Place) (c : Cursor) (count : ℕ)
         (found-net : NetFound s g i entries line w w′ table table′ (netLines (sizesOf g) (i + 1) p) c count) where
       abbrev net : Net
       net = found-net .net
@@ -138,7 +140,7 @@ module _ (s : List ℕ) (g : Shape) (shaped : Shaped g) where
       net-is-ok : NetOk (g .w) (g .h) (g .k) (found-net .net)
       net-is-ok =
           let ds = dirsOf (g .k) (g .dirs) in
-          gives-found (NetFine (g .w) (g .h) (g .k) ds) (netLines (sizesOf g) (i + 1) p) net (placeOf s c) (found-net .is) (net-gives (g .w) (g .h) (g .k) ds (i + 1) p) .0
+          gives-found (NetFine (g .w) (g .h) (g .k) ds) (netLines (sizesOf g) (i + 1) p) net (placeOf s c) (found-net .is) (net-gives (g .w) (g .h) (g .k) ds (omega (arith, shaped .k-least)) (i + 1) p) .0
 
       rows-more : (k : ℕ) → k < length (ns ++ (found-net .net ∷ []))
           → RowAt s (g .w) (g .h) (g .k) table′ k (offset (edgesOf (ns ++ (found-net .net ∷ []))) k) (getD (ns ++ (found-net .net ∷ [])) k noNet)
@@ -188,7 +190,7 @@ pub record Midway (s : List ℕ) (g : Shape) (n from : ℕ) (w₀ w table : List
   pub turn : i ≤ n
   pub so-read : SoRead s g done entries w₀ w table
   pub place : c .at ≤ length s
-  pub lines : c .line ≡ from + 3 * i
+  pub lines : c .line ≡ from + netsLines done
   pub left : r ≡ ahead done (nets (sizesOf g) (suc i) (n - i) (placeOf s c))
 
 module _ (s : List ℕ) (g : Shape) (shaped : Shaped g) (n from : ℕ) (w₀ : List ℕ) (r : Result (List Net)) where
@@ -210,6 +212,10 @@ module _ (s : List ℕ) (g : Shape) (shaped : Shaped g) (n from : ℕ) (w₀ : L
     pub midway-ready : i < n → n ≤ mostNets → chosenAt g ≤ length w₀ → NetReady g i w
     midway-ready h m room = nets-ready s g shaped (mid .done) entries w₀ w table (mid .so-read) i (mid .count) (omega arith) room
 
+    -- four lines a net at most
+    pub midway-lines : c .line ≤ from + 4 * i
+    midway-lines = omega (arith, mid .lines, mid .count, lines-few (mid .done))
+
     pub midway-few : entries ≤ i * mostTiles
     midway-few = omega (arith, nets-few s g shaped (mid .done) entries w₀ w table (mid .so-read), mid .count)
 
@@ -226,37 +232,37 @@ module _ (s : List ℕ) (g : Shape) (shaped : Shaped g) (n from : ℕ) (w₀ : L
         one-more h
         ∙ ap (λ (x : Result Net). ahead (mid .done) (next x (λ m q. next (nets (sizesOf g) (suc (i + 1)) (n - (i + 1)) q) (λ ms q′. found (m ∷ ms) q′)))) e
 
-    pub midway-next : i < n → (line : ℕ) (w′ table′ : List ℕ) (d : Cursor) (count : ℕ) → line ≡ c .line + 3
-        → NetFound s g i entries line w w′ table table′ (netLines (sizesOf g) (i + 1) (placeOf s c)) d count
+    pub midway-next : i < n → (w′ table′ : List ℕ) (d : Cursor) (count : ℕ)
+        → NetFound s g i entries (λ n. c .line + 3 + optionLines (n .low)) w w′ table table′ (netLines (sizesOf g) (i + 1) (placeOf s c)) d count
         → Midway s g n from w₀ w′ table′ r d (entries + count) (i + 1)
-    midway-next h line w′ table′ d count l f = record {
+    midway-next h w′ table′ d count f = record {
       done = mid .done ++ (f .net ∷ []);
       count = omega (arith, length-append (mid .done) (f .net ∷ []), mid .count);
       turn = omega arith;
-      so-read = nets-more s g shaped (mid .done) entries w₀ w table (mid .so-read) i (mid .count) line w′ table′ (placeOf s c) d count f;
+      so-read = nets-more s g shaped (mid .done) entries w₀ w table (mid .so-read) i (mid .count) (λ n. c .line + 3 + optionLines (n .low)) w′ table′ (placeOf s c) d count f;
       place = f .after .place;
-      lines = omega (arith, f .after .lines, mid .lines);
+      lines = omega (arith, f .after .lines, mid .lines, lines-snoc (mid .done) (f .net));
       left =
           one-more h
           ∙ ap (λ (x : Result Net). ahead (mid .done) (next x (λ m q. next (nets (sizesOf g) (suc (i + 1)) (n - (i + 1)) q) (λ ms q′. found (m ∷ ms) q′)))) (f .is)
           ∙ ahead-one (mid .done) (f .net) (nets (sizesOf g) (suc (i + 1)) (n - (i + 1)) (placeOf s d));
     }
 
-    pub midway-count : i < n → (line : ℕ) (w′ table′ : List ℕ) (d : Cursor) (count : ℕ) → line ≡ c .line + 3
-        → NetFound s g i entries line w w′ table table′ (netLines (sizesOf g) (i + 1) (placeOf s c)) d count
+    pub midway-count : i < n → (w′ table′ : List ℕ) (d : Cursor) (count : ℕ)
+        → NetFound s g i entries (λ n. c .line + 3 + optionLines (n .low)) w w′ table table′ (netLines (sizesOf g) (i + 1) (placeOf s c)) d count
         → entries + count ≤ (i + 1) * mostTiles
-    midway-count h line w′ table′ d count l f =
-        let m = midway-next h line w′ table′ d count l f in
+    midway-count h w′ table′ d count f =
+        let m = midway-next h w′ table′ d count f in
         omega (arith, nets-few s g shaped (m .done) (entries + count) w₀ w′ table′ (m .so-read), m .count)
 
-    pub midway-end : n ≤ i → NetsFound s g n (from + 3 * n) w₀ w table r c entries
+    pub midway-end : n ≤ i → NetsFound s g n from w₀ w table r c entries
     midway-end h =
         let all : i ≡ n = omega (arith, mid .turn) in
         let none : n - i ≡ 0 = omega arith in
         record {
           nets = mid .done ++ [];
           is = mid .left ∙ ap (λ (m : ℕ). ahead (mid .done) (nets (sizesOf g) (suc i) m (placeOf s c))) none;
-          after = record { place = mid .place; lines = omega (arith, mid .lines) };
+          after = record { place = mid .place; lines = mid .lines ∙ ap (λ (l : List Net). from + netsLines l) (sym (append-nil (mid .done))) };
           count = ap length (append-nil (mid .done)) ∙ mid .count ∙ all;
           so-read = subst (λ (l : List Net). SoRead s g l entries w₀ w table) (sym (append-nil (mid .done))) (mid .so-read);
         }

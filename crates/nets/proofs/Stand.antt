@@ -8,14 +8,14 @@ use Prim.Native.Nat.{ℕ, suc, _+_, _*_, _≤_, _<_}
 use native.Mathlib.Omega.{arith}
 use lib.ListN.{length, drop, getD, set, length-set}
 use lib.Seq.{drop-drop, getD-set-same, getD-set-other}
-use Rattle.layout.specs.Table.{pinsColumn, edgesColumn, tilesColumn, firstColumn, countColumn, tableSize}
+use Rattle.layout.specs.Table.{pinsColumn, edgesColumn, tilesColumn, firstColumn, countColumn, viasColumn, tableSize}
 use Rattle.model.specs.Job.{Net}
 use Rattle.model.specs.Score.{differentTiles}
 use Rattle.model.specs.Limits.{mostNets}
 use Rattle.model.specs.Lists.{all, twice}
 use Rattle.model.specs.Read.{Place, refused, found, pinInside, pinAt, samePin, pinsLine}
 use Rattle.model.specs.Text.{bytes}
-use Rattle.net.specs.Table.{PinsAt, EdgesAt}
+use Rattle.net.specs.Table.{PinsAt, EdgesAt, markOf}
 use Rattle.scan.specs.Keys.{judged, onKey, pins-law, behind-is}
 use Rattle.scan.specs.Lines.{Lined}
 use Rattle.scan.specs.Pins.{pinsOf}
@@ -114,12 +114,21 @@ module _ (t : List ℕ) (i a b c d e : ℕ) (turn : i < mostNets) (long : tableS
   row-count : getD (rowPut t i a b c d e) (countColumn i) 0 ≡ e
   row-count = getD-set-same t₄ (countColumn i) e 0 (omega (arith, long₄))
 
+  row-low : getD (rowPut t i a b c d e) (viasColumn i) 0 ≡ getD t (viasColumn i) 0
+  row-low =
+      getD-set-other t₄ (countColumn i) (viasColumn i) e 0 (λ p. omega arith)
+      ∙ getD-set-other t₃ (firstColumn i) (viasColumn i) d 0 (λ p. omega arith)
+      ∙ getD-set-other t₂ (tilesColumn i) (viasColumn i) c 0 (λ p. omega arith)
+      ∙ getD-set-other t₁ (edgesColumn i) (viasColumn i) b 0 (λ p. omega arith)
+      ∙ getD-set-other t (pinsColumn i) (viasColumn i) a 0 (λ p. omega arith)
+
   pub row-stands : (s : List ℕ) (W H K : ℕ) (net : Net) → PinsAt s W H K a net → EdgesAt s W H b net → c ≡ differentTiles (net .pins) → e ≡ length (net .edges)
-      → RowAt s W H K (rowPut t i a b c d e) i d net
-  row-stands s W H K net pins edges pin-tiles edge-count = record {
+      → getD t (viasColumn i) 0 ≡ markOf (net .low) → RowAt s W H K (rowPut t i a b c d e) i d net
+  row-stands s W H K net pins edges pin-tiles edge-count low = record {
     pins = rw row-pins pins;
     edges = rw row-edges edges;
     pin-tiles = row-tiles ∙ pin-tiles;
     edge-count = row-count ∙ edge-count;
     first-is = row-first;
+    low-is = row-low ∙ low;
   }

@@ -20,7 +20,8 @@ use Rattle.text.specs.declared.Cursor.{Cursor}
 use Rattle.text.specs.declared.Fault.the-variants.{Turn}
 use Rattle.text.specs.declared.Refusal.{Refusal}
 use Rattle.text.specs.declared.Refusal.the-variants.{Line}
-use Rattle.nets.specs.Nets.{turnTold, bodyIn, lines-are, NetTold}
+use Rattle.theory.specs.links.JobText.{optionLines}
+use Rattle.nets.specs.Nets.{turnTold, restIn, lines-are, NetTold}
 use Rattle.nets.specs.declared.NetRead.{NetRead}
 
 module _ (s : List ℕ) (c : Cursor) (i : ℕ) (f : Field) (told : fieldTold s f ≡ numberLineBy (keyBytes "net") (placeOf s c)) where
@@ -41,14 +42,14 @@ module _ (s : List ℕ) (c : Cursor) (i : ℕ) (f : Field) (told : fieldTold s f
 
 module _ (s : List ℕ) (c : Cursor) (g : Shape) (i : ℕ) (l : Listed) (told : turnTold s l ≡ netLine (i + 1) (placeOf s c)) where
   pub net-refused : (f : Refusal) → l ≡ Unlisted f → netLines (sizesOf g) (i + 1) (placeOf s c) ≡ refusedBy f
-  net-refused f e = lines-are (sizesOf g) (i + 1) (placeOf s c) ∙ ap (λ (x : Result (Unit {0})). next x (λ u. bodyIn (sizesOf g))) (sym told ∙ ap (turnTold s) e)
+  net-refused f e = lines-are (sizesOf g) (i + 1) (placeOf s c) ∙ ap (λ (x : Result (Unit {0})). next x (λ u. restIn (sizesOf g))) (sym told ∙ ap (turnTold s) e)
 
   pub net-goes-on : (d : Cursor) → l ≡ Next d → d .line ≡ c .line + 1 → (first : ℕ) (w w′ table table′ : List ℕ) (r : NetRead)
-      → NetTold s g i first (d .line + 2) w w′ table table′ (bodyIn (sizesOf g) (placeOf s d)) r
-      → NetTold s g i first (c .line + 3) w w′ table table′ (netLines (sizesOf g) (i + 1) (placeOf s c)) r
+      → NetTold s g i first (λ n. d .line + 2 + optionLines (n .low)) w w′ table table′ (restIn (sizesOf g) (placeOf s d)) r
+      → NetTold s g i first (λ n. c .line + 3 + optionLines (n .low)) w w′ table table′ (netLines (sizesOf g) (i + 1) (placeOf s c)) r
   net-goes-on d e h first w w′ table table′ r t =
       let line : d .line + 2 ≡ c .line + 3 = omega arith in
-      let same : bodyIn (sizesOf g) (placeOf s d) ≡ netLines (sizesOf g) (i + 1) (placeOf s c) =
-      sym (lines-are (sizesOf g) (i + 1) (placeOf s c) ∙ ap (λ (x : Result (Unit {0})). next x (λ u. bodyIn (sizesOf g))) (sym told ∙ ap (turnTold s) e)) in
-      subst (λ (k : ℕ). NetTold s g i first k w w′ table table′ (netLines (sizesOf g) (i + 1) (placeOf s c)) r) line
-      (subst (λ (x : Result Net). NetTold s g i first (d .line + 2) w w′ table table′ x r) same t)
+      let same : restIn (sizesOf g) (placeOf s d) ≡ netLines (sizesOf g) (i + 1) (placeOf s c) =
+      sym (lines-are (sizesOf g) (i + 1) (placeOf s c) ∙ ap (λ (x : Result (Unit {0})). next x (λ u. restIn (sizesOf g))) (sym told ∙ ap (turnTold s) e)) in
+      subst (λ (k : ℕ). NetTold s g i first (λ n. k + optionLines (n .low)) w w′ table table′ (netLines (sizesOf g) (i + 1) (placeOf s c)) r) line
+      (subst (λ (x : Result Net). NetTold s g i first (λ n. d .line + 2 + optionLines (n .low)) w w′ table table′ x r) same t)

@@ -4,10 +4,10 @@ use mathlib.Core.List.{List}
 use mathlib.Core.Path.{_≡_}
 use Prim.Native.Nat.{ℕ}
 use lib.ListN.{length, getD, set}
-use Rattle.layout.specs.Table.{pinsColumn, edgesColumn, tilesColumn, firstColumn, countColumn}
+use Rattle.layout.specs.Table.{pinsColumn, edgesColumn, tilesColumn, firstColumn, countColumn, viasColumn}
 use Rattle.model.specs.Job.{Net}
 use Rattle.model.specs.Score.{differentTiles}
-use Rattle.net.specs.Table.{PinsAt, EdgesAt}
+use Rattle.net.specs.Table.{PinsAt, EdgesAt, markOf}
 
 -- the table with the row of net i, counted from 0: the places of its entries, in how many tiles its pins are, the place of its first layer, and how many edges it has
 abbrev pub rowPut : List ℕ → ℕ → ℕ → ℕ → ℕ → ℕ → ℕ → List ℕ
@@ -21,3 +21,4 @@ pub record RowAt (s : List ℕ) (W H K : ℕ) (table : List ℕ) (i first : ℕ)
   pub pin-tiles : getD table (tilesColumn i) 0 ≡ differentTiles (net .pins)
   pub edge-count : getD table (countColumn i) 0 ≡ length (net .edges)
   pub first-is : getD table (firstColumn i) 0 ≡ first
+  pub low-is : getD table (viasColumn i) 0 ≡ markOf (net .low)

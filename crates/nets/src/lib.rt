@@ -1,4 +1,4 @@
-// The lines of all nets, behind the head of a job text: each net's three lines judged, and its row put into the net table.
+// The lines of all nets, behind the head of a job text: each net's three or four lines judged, and its row put into the net table.
 use edges::Edges;
 use edges::EdgesRead;
 use layout::Shape;
@@ -10,21 +10,23 @@ use text::Cursor;
 use text::Fault;
 use text::Refusal;
 ghost use mathlib.Core.Path.{_≡_};
-ghost use Prim.Native.Nat.{_+_, _*_, _<_, _≤_};
-ghost use lib.ListN.{length};
+ghost use Prim.Native.Nat.{_+_, _<_, _≤_};
+ghost use lib.ListN.{length, getD, set};
 ghost use Rattle.layout.specs.Areas.{tilesAt, chosenAt, tilesOf};
 ghost use Rattle.layout.specs.Parts.{Outside};
 ghost use Rattle.layout.specs.Shapes.{sizesOf, Shaped};
-ghost use Rattle.layout.specs.Table.{tableSize};
+ghost use Rattle.layout.specs.Table.{viasColumn, tableSize};
 ghost use Rattle.lines.specs.Told.{listIn, mapped};
 ghost use Rattle.marks.specs.Marks.{Older};
 ghost use Rattle.marks.specs.Words.{mostStamp};
 ghost use Rattle.model.specs.Limits.{mostNets};
-ghost use Rattle.model.specs.Read.{netLine, pinsLine, netLines, nets};
+ghost use Rattle.model.specs.Job.{Net};
+ghost use Rattle.model.specs.Read.{netLine, lowLine, pinsLine, netLines, nets};
+ghost use Rattle.theory.specs.links.JobText.{optionLines};
 ghost use Rattle.pins.specs.Pins.{pinsIn, pinsTold, pinsMarked};
 ghost use Rattle.text.specs.Refusals.{placeOf};
 ghost use Rattle.nets.specs.Rows.{rowPut};
-ghost use Rattle.nets.specs.Nets.{turnTold, bodyIn, NetReady, NetTold, NetsReady, NetsTold};
+ghost use Rattle.nets.specs.Nets.{turnTold, lowAt, lowTold, lowHolds, bodyIn, restIn, NetReady, NetTold, NetsReady, NetsTold};
 
 // The lines of a net: the place after them, and the entries of its `edges` line.
 pub enum NetRead {
@@ -55,6 +57,28 @@ fn net_line(s: &[u8], c: Cursor, turn: usize) -> Listed
     }
 }
 
+// The lowest wanted layer of a net, 0 where it has no line `low`, and the place of the next line.
+pub enum LowRead {
+    Low(u32, Cursor),
+    Refused(Refusal),
+}
+
+// The line `low` of a net in a job of k layers, where it stands.
+fn low_line(s: &[u8], c: Cursor, k: usize) -> LowRead
+    requires { ⌜ (c .at ≤ length (now s)) × (c .line < 1048576) × (k ≤ 8) ⌝ }
+    ensures { λ r. ⌜ lowTold (now (s .entry)) r ≡ lowLine k (placeOf (now (s .entry)) c) ⌝ }
+    ensures { λ r. ⌜ lowHolds (length (now (s .entry))) (c .line) r ⌝ }
+{
+    let o = lines::open_line(s, c, b"low=");
+    if !o.there {
+        return LowRead::Low(0, c);
+    }
+    match lines::ranged(s, c, b"low=", 1, k) {
+        Field::Refused(r) => LowRead::Refused(r),
+        Field::Value(n, d) => LowRead::Low(n as u32, d),
+    }
+}
+
 // The `pins` line, its pins marked by tile.
 fn net_pins(s: &[u8], c: Cursor, w: &mut [u32], g: Shape, stamp: u32) -> PinsRead
     requires { ⌜ Shaped g ⌝ }
@@ -75,7 +99,15 @@ pub struct Row {
     pub first: usize,
 }
 
-// What the lines of a net say in its row.
+// The lowest wanted layer of net i in its row, 0 where it has none.
+fn put_low(table: &mut [u32], i: usize, low: u32)
+    requires { ⌜ (i < mostNets) × (tableSize ≤ length (now table)) ⌝ }
+    ensures { λ _. ⌜ now (table .exit) ≡ set (now (table .entry)) (viasColumn i) low ⌝ }
+{
+    table[layout::vias_column(i)] = low;
+}
+
+// What the `pins` and `edges` lines of a net say in its row.
 fn put_row(table: &mut [u32], row: Row, pins: Pins, edges: Edges)
     requires { ⌜ (row .i < mostNets) × (tableSize ≤ length (now table)) ⌝ }
     requires { ⌜ (pins .from ≤ 16777216) × (edges .from ≤ 16777216) × (pins .tiles ≤ 16777216) × (row .first ≤ 16777216) × (edges .entries ≤ 16777216) ⌝ }
@@ -89,13 +121,13 @@ fn put_row(table: &mut [u32], row: Row, pins: Pins, edges: Edges)
     table[layout::count_column(i)] = edges.entries as u32;
 }
 
-// The `pins` and `edges` lines of a net, behind its `net` line.
+// The `pins` and `edges` lines of a net, behind its other ones, whose row has its lowest wanted layer already.
 fn net_body(s: &[u8], c: Cursor, w: &mut [u32], g: Shape, table: &mut [u32], row: Row) -> NetRead
     requires { ⌜ Shaped g ⌝ }
     requires { ⌜ (c .at ≤ length (now s)) × (c .line < 100000) × (length (now s) ≤ 1048576) ⌝ }
     requires { ⌜ (tableSize ≤ length (now table)) × (row .first ≤ 16777216) ⌝ }
     requires { ⌜ NetReady g (row .i) (now w) ⌝ }
-    ensures { λ r. ⌜ NetTold (now (s .entry)) g (row .i) (row .first) (c .line + 2) (now (w .entry)) (now (w .exit)) (now (table .entry)) (now (table .exit)) (bodyIn (sizesOf g) (placeOf (now (s .entry)) c)) r ⌝ }
+    ensures { λ r. ⌜ NetTold (now (s .entry)) g (row .i) (row .first) (λ _. c .line + 2) (now (w .entry)) (now (w .exit)) (now (table .entry)) (now (table .exit)) (bodyIn (sizesOf g) (lowAt (getD (now (table .entry)) (viasColumn (row .i)) 0)) (placeOf (now (s .entry)) c)) r ⌝ }
     ensures { λ _. ⌜ (length (now (w .exit)) ≡ length (now (w .entry))) × (length (now (table .exit)) ≡ length (now (table .entry))) ⌝ }
 {
     let stamp = (row.i + 1) as u32;
@@ -111,18 +143,36 @@ fn net_body(s: &[u8], c: Cursor, w: &mut [u32], g: Shape, table: &mut [u32], row
     }
 }
 
-// The three lines of a net.
+// The lines of a net behind its `net` line.
+fn net_rest(s: &[u8], c: Cursor, w: &mut [u32], g: Shape, table: &mut [u32], row: Row) -> NetRead
+    requires { ⌜ Shaped g ⌝ }
+    requires { ⌜ (c .at ≤ length (now s)) × (c .line < 95000) × (length (now s) ≤ 1048576) ⌝ }
+    requires { ⌜ (tableSize ≤ length (now table)) × (row .first ≤ 16777216) ⌝ }
+    requires { ⌜ NetReady g (row .i) (now w) ⌝ }
+    ensures { λ r. ⌜ NetTold (now (s .entry)) g (row .i) (row .first) (λ n. c .line + 2 + optionLines (n .low)) (now (w .entry)) (now (w .exit)) (now (table .entry)) (now (table .exit)) (restIn (sizesOf g) (placeOf (now (s .entry)) c)) r ⌝ }
+    ensures { λ _. ⌜ (length (now (w .exit)) ≡ length (now (w .entry))) × (length (now (table .exit)) ≡ length (now (table .entry))) ⌝ }
+{
+    match low_line(s, c, g.k) {
+        LowRead::Refused(r) => NetRead::Refused(r),
+        LowRead::Low(low, d) => {
+            put_low(table, row.i, low);
+            net_body(s, d, w, g, table, row)
+        }
+    }
+}
+
+// The lines of a net.
 fn read_net(s: &[u8], c: Cursor, w: &mut [u32], g: Shape, table: &mut [u32], row: Row) -> NetRead
     requires { ⌜ Shaped g ⌝ }
     requires { ⌜ (c .at ≤ length (now s)) × (c .line < 90000) × (length (now s) ≤ 1048576) ⌝ }
     requires { ⌜ (tableSize ≤ length (now table)) × (row .first ≤ 16777216) ⌝ }
     requires { ⌜ NetReady g (row .i) (now w) ⌝ }
-    ensures { λ r. ⌜ NetTold (now (s .entry)) g (row .i) (row .first) (c .line + 3) (now (w .entry)) (now (w .exit)) (now (table .entry)) (now (table .exit)) (netLines (sizesOf g) (row .i + 1) (placeOf (now (s .entry)) c)) r ⌝ }
+    ensures { λ r. ⌜ NetTold (now (s .entry)) g (row .i) (row .first) (λ n. c .line + 3 + optionLines (n .low)) (now (w .entry)) (now (w .exit)) (now (table .entry)) (now (table .exit)) (netLines (sizesOf g) (row .i + 1) (placeOf (now (s .entry)) c)) r ⌝ }
     ensures { λ _. ⌜ (length (now (w .exit)) ≡ length (now (w .entry))) × (length (now (table .exit)) ≡ length (now (table .entry))) ⌝ }
 {
     match net_line(s, c, row.i + 1) {
         Listed::Refused(r) => NetRead::Refused(r),
-        Listed::Next(d) => net_body(s, d, w, g, table, row),
+        Listed::Next(d) => net_rest(s, d, w, g, table, row),
     }
 }
 
@@ -138,7 +188,7 @@ pub fn read_nets(
     requires { ⌜ Shaped g ⌝ }
     requires { ⌜ (from .at ≤ length (now s)) × (from .line < 1000) × (length (now s) ≤ 1048576) × (n ≤ mostNets) ⌝ }
     requires { ⌜ NetsReady g (now w) (now table) ⌝ }
-    ensures { λ r. ⌜ NetsTold (now (s .entry)) g n (from .line + 3 * n) (now (w .entry)) (now (w .exit)) (now (table .exit)) (nets (sizesOf g) 1 n (placeOf (now (s .entry)) from)) r ⌝ }
+    ensures { λ r. ⌜ NetsTold (now (s .entry)) g n (from .line) (now (w .entry)) (now (w .exit)) (now (table .exit)) (nets (sizesOf g) 1 n (placeOf (now (s .entry)) from)) r ⌝ }
     ensures { λ _. ⌜ (length (now (w .exit)) ≡ length (now (w .entry))) × (length (now (table .exit)) ≡ length (now (table .entry))) ⌝ }
 {
     let mut c = from;

@@ -1,53 +1,79 @@
 -- The loop that stores the scores of a job's nets.
 -- Assumes nothing.
 use mathlib.Core.List.{List}
-use mathlib.Core.Path.{_≡_, refl, ap, ap₂, _∙_}
+use mathlib.Core.Logic.{⊎-elim}
+use mathlib.Core.Path.{_≡_, refl, sym, ap, ap₂, _∙_}
 use Prim.Native.Nat.{ℕ, suc, _+_, _*_, _/_, _%_, _≤_, _<_}
 use native.Mathlib.Decide.{decLt}
 use native.Mathlib.Omega.{arith}
 use lib.ListN.{length, getD, set, length-set}
 use lib.Seq.{getD-set-same, getD-set-other}
-use Rattle.layout.specs.Table.{tilesColumn, viasColumn, tableSize, scoreIn, scorePut}
+use Rattle.layout.specs.Table.{tilesColumn, viasColumn, tableSize, lowIn, scoreIn, scorePut}
 use Rattle.layout.specs.declared.Shape.{Shape}
 use Rattle.model.specs.Job.{Job, netCount, netOf}
 use Rattle.model.specs.Limits.{mostNets}
 use Rattle.model.specs.Read.{Lent}
 use Rattle.model.specs.Score.{differentTiles, score}
-use Rattle.net.specs.Table.{Table, PinTiles, table-set, beside-tiles, beside-vias}
+use Rattle.net.specs.Table.{Table, PinTiles, Marks, table-set, beside-tiles, beside-vias}
+use Rattle.theory.specs.congestion.Sums.{same-cases}
 use Rattle.order.specs.Ready.{Ready, SomeJob, SomeNet, Scored}
 use Rattle.order.specs.declared.Weights.{Weights}
 
 -- ---- one score is stored
 
 module _ (table : List ℕ) (i v : ℕ) where
-  abbrev low : List ℕ
-  low = set table (tilesColumn i) (v % 4_294_967_296)
+  abbrev half : List ℕ
+  half = set table (tilesColumn i) (v % 4_294_967_296)
+
+  -- what takes the place of the vias
+  abbrev upper : ℕ
+  upper = lowIn table i + 16 * (v / 4_294_967_296)
 
   pub put-long : length (scorePut table i v) ≡ length table
-  put-long = length-set low (viasColumn i) (v / 4_294_967_296) ∙ length-set table (tilesColumn i) (v % 4_294_967_296)
+  put-long = length-set half (viasColumn i) upper ∙ length-set table (tilesColumn i) (v % 4_294_967_296)
 
   pub put-tiles : (k : ℕ) → i < k → getD (scorePut table i v) (tilesColumn k) 0 ≡ getD table (tilesColumn k) 0
   put-tiles k h =
-      getD-set-other low (viasColumn i) (tilesColumn k) (v / 4_294_967_296) 0 (λ e. omega arith)
+      getD-set-other half (viasColumn i) (tilesColumn k) upper 0 (λ e. omega arith)
       ∙ getD-set-other table (tilesColumn i) (tilesColumn k) (v % 4_294_967_296) 0 (λ e. omega arith)
+
+  other-vias : (k : ℕ) → (k ≡ i → ⊥) → getD (scorePut table i v) (viasColumn k) 0 ≡ getD table (viasColumn k) 0
+  other-vias k h =
+      getD-set-other half (viasColumn i) (viasColumn k) upper 0 (λ e. h (omega arith))
+      ∙ getD-set-other table (tilesColumn i) (viasColumn k) (v % 4_294_967_296) 0 (λ e. omega arith)
 
   put-other : (k : ℕ) → k < i → scoreIn (scorePut table i v) k ≡ scoreIn table k
   put-other k h =
-      ap₂ (λ (x y : ℕ). x + 4_294_967_296 * y)
-      (getD-set-other low (viasColumn i) (tilesColumn k) (v / 4_294_967_296) 0 (λ e. omega arith) ∙ getD-set-other table (tilesColumn i) (tilesColumn k) (v % 4_294_967_296) 0 (λ e. omega arith))
-      (getD-set-other low (viasColumn i) (viasColumn k) (v / 4_294_967_296) 0 (λ e. omega arith) ∙ getD-set-other table (tilesColumn i) (viasColumn k) (v % 4_294_967_296) 0 (λ e. omega arith))
+      ap₂ (λ (x y : ℕ). x + 4_294_967_296 * (y / 16))
+      (getD-set-other half (viasColumn i) (tilesColumn k) upper 0 (λ e. omega arith) ∙ getD-set-other table (tilesColumn i) (tilesColumn k) (v % 4_294_967_296) 0 (λ e. omega arith))
+      (other-vias k (λ e. omega arith))
 
-  put-here : i < mostNets → tableSize ≤ length table → scoreIn (scorePut table i v) i ≡ v
-  put-here h long =
-      omega (
-        arith,
-        getD-set-other low (viasColumn i) (tilesColumn i) (v / 4_294_967_296) 0 (λ e. omega arith),
-        getD-set-same table (tilesColumn i) (v % 4_294_967_296) 0 (omega arith),
-        getD-set-same low (viasColumn i) (v / 4_294_967_296) 0 (omega (arith, length-set table (tilesColumn i) (v % 4_294_967_296))),
-      )
+  module _ (h : i < mostNets) (long : tableSize ≤ length table) where
+    here-vias : getD (scorePut table i v) (viasColumn i) 0 ≡ lowIn table i + 16 * (v / 4_294_967_296)
+    here-vias = getD-set-same half (viasColumn i) upper 0 (omega (arith, length-set table (tilesColumn i) (v % 4_294_967_296)))
+
+    put-here : scoreIn (scorePut table i v) i ≡ v
+    put-here =
+        omega (
+          arith,
+          getD-set-other half (viasColumn i) (tilesColumn i) upper 0 (λ e. omega arith),
+          getD-set-same table (tilesColumn i) (v % 4_294_967_296) 0 (omega arith),
+          here-vias,
+        )
+
+    -- the lowest wanted layers stay
+    put-lows : (k : ℕ) → lowIn (scorePut table i v) k ≡ lowIn table k
+    put-lows k =
+        ⊎-elim
+        (λ s. ap (lowIn (scorePut table i v)) (s .0) ∙ here ∙ ap (lowIn table) (sym (s .0)))
+        (λ s. ap (λ (x : ℕ). x % 16) (other-vias k (s .0)))
+        (same-cases k i)
+      where
+        here : lowIn (scorePut table i v) i ≡ lowIn table i
+        here = omega (arith, here-vias)
 
   put-rows : (s : List ℕ) (j : Job) → Table s j table → Table s j (scorePut table i v)
-  put-rows s j t = table-set s j low (viasColumn i) (v / 4_294_967_296) (beside-vias i) (table-set s j table (tilesColumn i) (v % 4_294_967_296) (beside-tiles i) t)
+  put-rows s j t = table-set s j half (viasColumn i) upper (beside-vias i) (table-set s j table (tilesColumn i) (v % 4_294_967_296) (beside-tiles i) t)
 
 -- ---- the loop
 
@@ -57,11 +83,12 @@ pub record Scoring (s : List ℕ) (g : Shape) (a : Weights) (w old : List ℕ) (
   pub long : length table ≡ length old
   pub left : (k : ℕ) → i ≤ k → getD table (tilesColumn k) 0 ≡ getD old (tilesColumn k) 0
   pub rows : (j : Job) → Table s j old → Table s j table
+  pub lows : (k : ℕ) → lowIn table k ≡ lowIn old k
   pub scores : (lent : Lent) (j : Job) → Ready s g a w old lent j → PinTiles j old → n ≡ netCount j → (k : ℕ) → k < i → scoreIn table k ≡ score j (netOf j (suc k))
 
 module _ (s : List ℕ) (g : Shape) (a : Weights) (w old : List ℕ) (n : ℕ) where
   pub scoring-first : Scoring s g a w old n old 0
-  scoring-first = record { below = omega arith; long = refl; left = λ k h. refl; rows = λ j t. t; scores = λ lent j ready pins c k h. absurd (omega arith) }
+  scoring-first = record { below = omega arith; long = refl; left = λ k h. refl; rows = λ j t. t; lows = λ k. refl; scores = λ lent j ready pins c k h. absurd (omega arith) }
 
   module _ (table : List ℕ) (i : ℕ) (f : Scoring s g a w old n table i) where
     still-ready : (lent : Lent) (j : Job) → Ready s g a w old lent j → Ready s g a w table lent j
@@ -99,6 +126,7 @@ module _ (s : List ℕ) (g : Shape) (a : Weights) (w old : List ℕ) (n : ℕ) w
         long = put-long table i v ∙ f .long;
         left = λ k l. put-tiles table i v k (omega arith) ∙ f .left k (omega arith);
         rows = λ j t. put-rows table i v s j (f .rows j t);
+        lows = λ k. put-lows table i v (few .0) (few .1) k ∙ f .lows k;
         scores = λ lent j ready pins c k l. go lent j ready pins c k l (decLt k i);
       }
         where
@@ -111,8 +139,9 @@ module _ (s : List ℕ) (g : Shape) (a : Weights) (w old : List ℕ) (n : ℕ) w
               ∙ is lent j (still-ready lent j ready) b (f .left i (omega arith) ∙ pins i b)
               ∙ ap (λ (x : ℕ). score j (netOf j (suc x))) (omega arith)
 
-    pub scoring-done : n ≤ i → (lent : Lent) (j : Job) → Ready s g a w old lent j → PinTiles j old → n ≡ netCount j → Scored s j table
-    scoring-done h lent j ready pins c = record {
+    pub scoring-done : n ≤ i → (lent : Lent) (j : Job) → Ready s g a w old lent j → PinTiles j old → Marks j old → n ≡ netCount j → Scored s j table
+    scoring-done h lent j ready pins lows c = record {
       rows = f .rows j (ready .rows);
       scores = λ k l. f .scores lent j ready pins c k (omega (arith, c, f .below));
+      lows = λ k l. f .lows k ∙ lows k l;
     }

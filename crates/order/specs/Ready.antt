@@ -13,7 +13,7 @@ use Rattle.model.specs.Job.{Job, netCount, netOf}
 use Rattle.model.specs.Read.{Lent}
 use Rattle.model.specs.Score.{differentTiles, score}
 use Rattle.net.specs.Checked.{Checked}
-use Rattle.net.specs.Table.{Table, PinTiles}
+use Rattle.net.specs.Table.{Table, PinTiles, Marks}
 use Rattle.theory.specs.links.Reading.{Accepted}
 use Rattle.flat.specs.FlatPlan.{FlatDemands, FlatCapacities}
 use Rattle.order.specs.declared.Weights.{Weights}
@@ -48,10 +48,11 @@ pub record SomeNet (s : List ℕ) (g : Shape) (a : Weights) (w table : List ℕ)
   pub there : i < netCount job
   pub pins : getD table (tilesColumn i) 0 ≡ differentTiles (netOf job (suc i) .pins)
 
--- the rows of the nets, and their scores
+-- the rows of the nets, their scores, and their lowest wanted layers
 pub record Scored (s : List ℕ) (j : Job) (table : List ℕ) : Type 0 where
   pub rows : Table s j table
   pub scores : (i : ℕ) → i < netCount j → scoreIn table i ≡ score j (netOf j (suc i))
+  pub lows : Marks j table
 
 -- so it is with a job whose text is checked, once its flat capacities are in their place
 pub ready-checked : (s : List ℕ) (g : Shape) (a : Weights) (w w′ table : List ℕ) (lent : Lent) (j : Job) → Accepted lent j → Checked s g j w table

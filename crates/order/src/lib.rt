@@ -11,7 +11,7 @@ ghost use Rattle.model.specs.Job.{Net, Job, netCount, netOf};
 ghost use Rattle.model.specs.Read.{Lent, edgeInside};
 ghost use Rattle.model.specs.Score as scores;
 ghost use Rattle.net.specs.Left.{EdgesThere};
-ghost use Rattle.net.specs.Table.{EdgesAt, PinTiles};
+ghost use Rattle.net.specs.Table.{EdgesAt, PinTiles, Marks};
 ghost use Rattle.scan.specs.Pins.{triple};
 ghost use Rattle.flat.specs.FlatPlan.{FlatDemands, FlatCapacities};
 ghost use Rattle.ways.specs.Entry.{edgeOf};
@@ -48,6 +48,7 @@ fn floor_of(n: u64, d: u64) -> u64
 fn score(a: Weights, edges: u64, pins: u64, x: Density) -> u64
     requires { ⌜ (a .alpha ≤ 255) × (a .beta ≤ 255) × (a .gamma ≤ 255) × (pins ≤ 1048576) × (x .demand ≤ 4294967296) ⌝ }
     ensures { λ r. ⌜ r ≡ scores.lengthTerm (a .alpha) edges + scores.pinTerm (a .beta) pins + scores.densityTerm (a .gamma) (x .demand) (x .capacity) ⌝ }
+    ensures { λ r. ⌜ r < 2 ^ 60 ⌝ }
 {
     floor_of(1000 * a.alpha, edges)
         + 1000 * a.beta * pins
@@ -55,19 +56,6 @@ fn score(a: Weights, edges: u64, pins: u64, x: Density) -> u64
 }
 
 // ---- D and C
-
-// The number of the edge that an entry inside the grid names.
-fn edge_of(g: Shape, x: usize, y: usize, d: usize) -> usize
-    requires { ⌜ Shaped g ⌝ }
-    requires { ⌜ (d ≤ 1) × (edgeInside (g .w) (g .h) (triple x y d) ≡ true) ⌝ }
-    ensures { λ r. ⌜ (r ≡ edgeOf g (triple x y d)) × (r < g .e) ⌝ }
-{
-    let here = layout::tile_at(g, x, y);
-    match d {
-        0 => here - y,
-        _ => g.east + here,
-    }
-}
 
 fn wide(x: u32) -> u64
     ensures { λ r. ⌜ (r ≡ x) × (r < 2 ^ 32) ⌝ }
@@ -95,7 +83,7 @@ fn add_entry(w: &[u32], g: Shape, v: Density, x: usize, y: usize, d: usize) -> D
     requires { ⌜ (tilesAt g ≤ length (now w)) × (v .demand ≤ 2 ^ 60) × (v .capacity ≤ 2 ^ 60) × (d ≤ 1) × (edgeInside (g .w) (g .h) (triple x y d) ≡ true) ⌝ }
     ensures { λ r. ⌜ Added g (now (w .entry)) (edgeOf g (triple x y d)) v r ⌝ }
 {
-    let edge = edge_of(g, x, y, d);
+    let edge = ways::edge_of(g, x, y, d);
     add_edge(w, g, v, edge)
 }
 
@@ -159,6 +147,7 @@ fn net_score(s: &[u8], w: &[u32], g: Shape, a: Weights, table: &[u32], i: usize)
     requires { ⌜ tilesAt g ≤ length (now w) ⌝ }
     requires { ⌜ SomeNet (now s) g a (now w) (now table) i ⌝ }
     ensures { λ r. ⌜ ((lent : Lent) (j : Job) → Ready (now (s .entry)) g a (now (w .entry)) (now (table .entry)) lent j → i < netCount j → getD (now (table .entry)) (tilesColumn i) 0 ≡ scores.differentTiles (netOf j (suc i) .pins) → r ≡ scores.score j (netOf j (suc i))) ⌝ }
+    ensures { λ r. ⌜ r < 2 ^ 60 ⌝ }
 {
     let at = layout::index(table[layout::edges_column(i)]);
     let edges = wide(table[layout::count_column(i)]);
@@ -172,7 +161,7 @@ pub fn score_nets(s: &[u8], w: &[u32], g: Shape, a: Weights, table: &mut [u32], 
     requires { ⌜ Shaped g ⌝ }
     requires { ⌜ tilesAt g ≤ length (now w) ⌝ }
     requires { ⌜ SomeJob (now s) g a (now w) (now table) n ⌝ }
-    ensures { λ _. ⌜ ((lent : Lent) (j : Job) → Ready (now (s .entry)) g a (now (w .entry)) (now (table .entry)) lent j → PinTiles j (now (table .entry)) → n ≡ netCount j → Scored (now (s .entry)) j (now (table .exit))) ⌝ }
+    ensures { λ _. ⌜ ((lent : Lent) (j : Job) → Ready (now (s .entry)) g a (now (w .entry)) (now (table .entry)) lent j → PinTiles j (now (table .entry)) → Marks j (now (table .entry)) → n ≡ netCount j → Scored (now (s .entry)) j (now (table .exit))) ⌝ }
 {
     for i in 0..n {
         let v = net_score(s, w, g, a, table, i);

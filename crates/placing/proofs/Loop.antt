@@ -27,16 +27,13 @@ use Rattle.theory.specs.congestion.Base.{in-upFrom}
 use Rattle.theory.specs.congestion.Sums.{in-head, same-cases}
 use Rattle.theory.specs.links.Meets.{order-long}
 use Rattle.theory.specs.links.Placing.{netsIn, nets-only, order-is}
+use Rattle.theory.specs.links.Placing.{noEntry}
 use Rattle.theory.specs.links.Planned.{Midway, midway-start, midway-next, same-net, turn-keeps, plan-in-turn, stands}
 use Rattle.theory.specs.links.Reading.{Accepted}
 use Rattle.theory.specs.links.Stretches.{cut-length, vias-by-turn}
 use Rattle.theory.specs.links.Turn.{order-once}
 use Rattle.turn.specs.Turn.{Turn, turnLayers}
 use Rattle.placing.specs.Turns.{RowTurn, RowDone, Start, AllPlaced}
-
--- no entry
-abbrev noEntry : Entry
-noEntry = record { net = 0; score = 0 }
 
 -- the vias that the plan gives net i
 abbrev viasIn : Job → ℕ → ℕ

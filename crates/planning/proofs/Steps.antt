@@ -17,21 +17,24 @@ use Rattle.model.specs.Job.{Job, netCount, edgeCount, entryCount}
 use Rattle.model.specs.Limits.{mostNets}
 use Rattle.model.specs.Overflow.{limit}
 use Rattle.model.specs.Plan.{plan}
+use Rattle.model.specs.Print.{ldofLine}
 use Rattle.model.specs.Read.{Lent, printNeed}
 use Rattle.net.specs.SoFar.{Capacities, SoFar}
-use Rattle.net.specs.Table.{PinTiles}
+use Rattle.net.specs.Table.{PinTiles, Marks}
 use Rattle.order.specs.Ready.{Ready, SomeJob, Scored, ready-checked}
 use Rattle.order.specs.declared.Weights.{Weights}
 use Rattle.placing.specs.Turns.{Start}
 use Rattle.net.specs.Held.{Held}
 use Rattle.print.specs.Handed.{Handed, plan-rows, plan-text, plan-fits, plan-overwrites}
-use Rattle.print.specs.Texts.{planText, Rows}
+use Rattle.print.specs.Texts.{ldofText, planText, Rows}
+use Rattle.print.specs.declared.Ldof.{Ldof}
 use Rattle.reader.specs.Whole.{JobFound}
 use Rattle.theory.specs.links.Closed.{capacity-all}
 use Rattle.theory.specs.links.Limits.{demand-small, capacity-small, maximum-small}
 use Rattle.theory.specs.links.Meets.{plan-largest}
 use Rattle.theory.specs.links.Planned.{plan-meets}
 use Rattle.theory.specs.links.Reading.{Accepted, accepted}
+use Rattle.directives.specs.Asked.{Asked, AskedSome}
 use Rattle.flat.specs.FlatPlan.{AllCounted, FlatCapacities, FlatDemands, Overflows, so-far-first}
 use Rattle.flat.specs.Limited.{limitsOf, limitAt, LimitsAre, limits-are}
 use Rattle.net.specs.Places.{SmallCapacities, small-capacities}
@@ -97,13 +100,13 @@ module _ (s : List ℕ) (lent : Lent) (w table : List ℕ) (h : Head) (k : JobFo
 
     -- and its nets are scored
     pub opened : (a : Weights) → a .alpha ≡ h .alpha → a .beta ≡ h .beta → a .gamma ≡ h .gamma → (table′ : List ℕ)
-        → ((l : Lent) (j : Job) → Ready s (h .shape) a w₁ table l j → PinTiles j table → h .nets ≡ netCount j → Scored s j table′) → OpenFound s lent w₁ table′ h
+        → ((l : Lent) (j : Job) → Ready s (h .shape) a w₁ table l j → PinTiles j table → Marks j table → h .nets ≡ netCount j → Scored s j table′) → OpenFound s lent w₁ table′ h
     opened a x y z table′ scored = record {
       job = k .job;
       place = k .place;
       is = k .is;
       given = given;
-      scored = scored lent (k .job) (ready a x y z) (k .checked .pin-tiles) (k .nets);
+      scored = scored lent (k .job) (ready a x y z) (k .checked .pin-tiles) (k .checked .lows) (k .nets);
     }
 
 -- ---- a job whose order stands
@@ -187,34 +190,52 @@ module _ (s : List ℕ) (h : Head) (w table : List ℕ) (size : ℕ) (lent : Len
       pub largest-told : (m : Limits) (v : ℕ) → m ≡ limitsOf (h .shape) w₁ (r .most) → v ≡ max (m .east) (m .north) → v ≡ max (limit j 0) (limit j 1)
       largest-told m v m-is v-is = v-is ∙ ap (λ (x : Limits). max (x .east) (x .north)) m-is ∙ limits-told .largest
 
+-- ---- what the counting of its nets asks
+
+module _ (s : List ℕ) (h : Head) (w table : List ℕ) (size : ℕ) (lent : Lent) (j : Job) (at : Turned s h w table size lent j) where
+  pub directives-asked : Asked s (h .shape) table lent j
+  directives-asked = record {
+    accepted = at .given .accepted;
+    width = ap (λ (x : Shape). x .w) (at .given .shape);
+    height = ap (λ (x : Shape). x .h) (at .given .shape);
+    layers = ap (λ (x : Shape). x .k) (at .given .shape);
+    edges = ap (λ (x : Shape). x .e) (at .given .shape);
+    rows = at .rows;
+    lows = at .lows;
+  }
+
+  pub directives-some : AskedSome s (h .shape) w table (h .nets)
+  directives-some = record { lent = lent; job = j; asked = directives-asked; count = at .given .count; capacities = at .given .capacities; loads = at .given .loads }
+
 -- ---- a plan that is made
 
-module _ (s : List ℕ) (h : Head) (w table answer answer′ table′ : List ℕ) (t : Totals) (lent : Lent) (j : Job) (at : Turned s h w table (length answer) lent j) (made : PlanMade j answer answer′ table′ t) where
+module _ (s : List ℕ) (h : Head) (w table answer answer′ table′ : List ℕ) (t : Totals) (lent : Lent) (j : Job) (at : Turned s h w table (length answer) lent j) (made : PlanMade j answer answer′ table′ t) (last : Ldof) (last-told : ldofText last ≡ ldofLine j) where
   acc : Accepted lent j
   acc = at .given .accepted
 
   held : Held j (plan j) table′ answer′
   held = made .placed .held
 
-  handed : Handed j (h .nets) table′ (t .vias) (t .total) (t .maximum)
+  handed : Handed j (h .nets) table′ (t .vias) (t .total) (t .maximum) last
   handed = record {
     count = at .given .count;
     turns = λ k b. made .placed .turns-are k (omega (arith, at .given .count));
     vias-told = made .placed .vias-are;
     total-told = made .total-is ∙ sym (plan-meets lent j acc .least-total);
     most-told = made .maximum-is ∙ sym (plan-largest lent j acc);
+    last-told = last-told;
   }
 
   pub rows-there : Rows (h .nets) table′ answer′
-  rows-there = plan-rows lent j acc table′ answer′ held (h .nets) (t .vias) (t .total) (t .maximum) handed
+  rows-there = plan-rows lent j acc table′ answer′ held (h .nets) (t .vias) (t .total) (t .maximum) last handed
 
   module _ (out : List ℕ) (room : printNeed (netCount j) (entryCount j) ≤ length out) where
-    pub text-fits : length (planText (h .nets) table′ answer′ (t .vias) (t .total) (t .maximum)) ≤ length out
-    text-fits = plan-fits lent j acc table′ answer′ held (h .nets) (t .vias) (t .total) (t .maximum) handed out room
+    pub text-fits : length (planText (h .nets) table′ answer′ (t .vias) (t .total) (t .maximum) last) ≤ length out
+    text-fits = plan-fits lent j acc table′ answer′ held (h .nets) (t .vias) (t .total) (t .maximum) last handed out room
 
-    pub print-made : (out′ : List ℕ) (size : ℕ) → out′ ≡ sets out 0 (planText (h .nets) table′ answer′ (t .vias) (t .total) (t .maximum))
-        → size ≡ length (planText (h .nets) table′ answer′ (t .vias) (t .total) (t .maximum)) → PrintMade j out out′ size
+    pub print-made : (out′ : List ℕ) (size : ℕ) → out′ ≡ sets out 0 (planText (h .nets) table′ answer′ (t .vias) (t .total) (t .maximum) last)
+        → size ≡ length (planText (h .nets) table′ answer′ (t .vias) (t .total) (t .maximum) last) → PrintMade j out out′ size
     print-made out′ size e l = record {
-      text-is = e ∙ plan-overwrites lent j acc table′ answer′ held (h .nets) (t .vias) (t .total) (t .maximum) handed out room;
-      size-is = l ∙ ap length (plan-text lent j acc table′ answer′ held (h .nets) (t .vias) (t .total) (t .maximum) handed);
+      text-is = e ∙ plan-overwrites lent j acc table′ answer′ held (h .nets) (t .vias) (t .total) (t .maximum) last handed out room;
+      size-is = l ∙ ap length (plan-text lent j acc table′ answer′ held (h .nets) (t .vias) (t .total) (t .maximum) last handed);
     }

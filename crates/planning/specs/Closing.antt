@@ -12,7 +12,7 @@ use Rattle.model.specs.Plan.{plan}
 use Rattle.model.specs.Print.{printed}
 use Rattle.model.specs.Read.{Lent, printNeed}
 use Rattle.model.specs.Score.{order}
-use Rattle.net.specs.Table.{Table, TurnsIn}
+use Rattle.net.specs.Table.{Table, TurnsIn, Marks}
 use Rattle.placing.specs.Turns.{AllPlaced}
 use Rattle.planning.specs.Opening.{Given}
 use Rattle.planning.specs.declared.Opened.{Opened}
@@ -23,11 +23,12 @@ use Rattle.planning.specs.declared.Printed.{Printed}
 use Rattle.planning.specs.declared.Printed.the-variants.{Print, Refused as NotPrinted}
 use Rattle.planning.specs.declared.Totals.{Totals}
 
--- the net table has the order of job j, and the answer list has this length
+-- the net table has the order of job j and the lowest wanted layers of its nets, and the answer list has this length
 pub record Turned (s : List ℕ) (h : Head) (w table : List ℕ) (size : ℕ) (lent : Lent) (j : Job) : Type 0 where
   pub given : Given h w lent j
   pub rows : Table s j table
   pub turns : TurnsIn j table
+  pub lows : Marks j table
   pub room : entryCount j ≤ size
 
 pub record TurnedSome (s : List ℕ) (h : Head) (w table : List ℕ) (size : ℕ) : Type 0 where

@@ -1,10 +1,12 @@
 // A call but for its order list: a job text is read and its nets are scored; then, in the order that the net table has, they are placed, and the plan is printed. The
 // working numbers are zero after every call.
 use head::Head;
+use head::HeadRead;
 use order::Weights;
 use placing::ToPlace;
 use print::Counts;
 use reader::JobRead;
+use reader::Lists;
 use reader::PrintRoom;
 use text::Refusal;
 use turn::Frame;
@@ -14,7 +16,7 @@ ghost use lib.ListN.{length, replicate};
 ghost use Rattle.layout.specs.Table.{tableSize};
 ghost use Rattle.model.specs.Job.{Job};
 ghost use Rattle.model.specs.Read.{Lent};
-ghost use Rattle.reader.specs.Whole.{lentBy};
+ghost use Rattle.reader.specs.Whole.{lentBy, HeadTold};
 ghost use Rattle.reader.specs.declared.PrintRoom.the-variants.{Absent, Bytes};
 ghost use Rattle.planning.specs.Opening.{OpenTold, netsOf};
 ghost use Rattle.planning.specs.Closing.{Turned, TurnedSome, ToClose, PrintSome, ToPrint, PlanMade, PlanClosed, PrintDone, PrintClosed};
@@ -56,19 +58,13 @@ fn weights_of(h: Head) -> Weights
     }
 }
 
-// Reads the text, and scores the nets of its job. `order`, `answer` and `print` are the lengths of what else is lent.
-fn open_job(
-    s: &[u8],
-    w: &mut [u32],
-    table: &mut [u32],
-    order: usize,
-    answer: usize,
-    print: PrintRoom,
-) -> Opened
+// Reads the text behind its head, and scores the nets of its job.
+fn open_job(s: &[u8], w: &mut [u32], table: &mut [u32], head: HeadRead, lists: Lists) -> Opened
+    requires { ⌜ HeadTold (now s) (length (now w)) (lists .order) (now w) head ⌝ }
     requires { ⌜ tableSize ≤ length (now table) ⌝ }
-    ensures { λ r. ⌜ OpenTold (now (s .entry)) (lentBy (length (now (w .entry))) order answer print) (now (w .exit)) (now (table .exit)) r ⌝ }
+    ensures { λ r. ⌜ OpenTold (now (s .entry)) (lentBy (length (now (w .entry))) (lists .order) (lists .answer) (lists .print)) (now (w .exit)) (now (table .exit)) r ⌝ }
 {
-    match reader::read_job(s, w, table, order, answer, print) {
+    match reader::read_job(s, w, table, head, lists) {
         JobRead::Refused(r) => Opened::Refused(r),
         JobRead::Job(h) => {
             flat::flat_capacities(w, h.shape);
@@ -83,7 +79,13 @@ pub fn open_plan(s: &[u8], w: &mut [u32], table: &mut [u32], order: usize, answe
     requires { ⌜ tableSize ≤ length (now table) ⌝ }
     ensures { λ r. ⌜ OpenTold (now (s .entry)) (lentBy (length (now (w .entry))) order answer Absent) (now (w .exit)) (now (table .exit)) r ⌝ }
 {
-    open_job(s, w, table, order, answer, PrintRoom::Absent)
+    let head = reader::open_head(s, w, order);
+    let lists = Lists {
+        order,
+        answer,
+        print: PrintRoom::Absent,
+    };
+    open_job(s, w, table, head, lists)
 }
 
 // For Print, whose buffer has `out` bytes.
@@ -98,7 +100,13 @@ pub fn open_print(
     requires { ⌜ tableSize ≤ length (now table) ⌝ }
     ensures { λ r. ⌜ OpenTold (now (s .entry)) (lentBy (length (now (w .entry))) order answer (Bytes out)) (now (w .exit)) (now (table .exit)) r ⌝ }
 {
-    open_job(s, w, table, order, answer, PrintRoom::Bytes(out))
+    let head = reader::open_head(s, w, order);
+    let lists = Lists {
+        order,
+        answer,
+        print: PrintRoom::Bytes(out),
+    };
+    open_job(s, w, table, head, lists)
 }
 
 // How many entries of the order list there are to write.
@@ -178,12 +186,14 @@ fn print_nets(
     ensures { λ r. ⌜ PrintDone (now (s .entry)) h (now (w .entry)) (now (table .entry)) (now (answer .entry)) (now (answer .exit)) (now (out .entry)) (now (out .exit)) r ⌝ }
     ensures { λ _. ⌜ length (now (w .exit)) ≡ length (now (w .entry)) ⌝ }
 {
+    let last = directives::ldof_of(s, w, h.shape, table, h.nets);
     let t = place_nets(s, h, w, table, answer);
     let counts = Counts {
         nets: h.nets,
         vias: t.vias,
         total: t.total,
         most: t.maximum,
+        last,
     };
     let size = print::put_plan(out, table, answer, counts);
     Printed::Print(t, size)

@@ -8,21 +8,23 @@ use lib.ListN.{length, take, drop, getD, length-map, List·getD-map}
 use lib.Seq.{sets}
 use Rattle.layout.specs.Table.{turnColumn}
 use Rattle.model.specs.Calls.{overwrite}
-use Rattle.model.specs.Job.{Net, Job, netCount, netOf, netEdges, entryCount}
+use Rattle.model.specs.Job.{Net, Job, netCount, noNet, netOf, netEdges, entryCount}
 use Rattle.model.specs.Limits.{mostNets}
 use Rattle.model.specs.Lists.{upFrom}
 use Rattle.model.specs.Overflow.{totalOverflow, maxOverflow}
 use Rattle.model.specs.Plan.{plan, netVias, totalVias}
-use Rattle.model.specs.Print.{printLine, printNets, printed}
+use Rattle.model.specs.Print.{printLine, printNets, planLines, ldofLine, printed}
 use Rattle.model.specs.Read.{Lent, printNeed}
 use Rattle.model.specs.Score.{Entry, order}
 use Rattle.model.specs.Vias.{vias}
 use Rattle.theory.specs.links.Meets.{order-long}
+use Rattle.theory.specs.links.Placing.{noEntry, entryAt}
 use Rattle.theory.specs.links.Reading.{Accepted}
 use Rattle.theory.specs.links.Room.{print-room}
 use Rattle.theory.specs.links.Stretches.{offset-room, cut-length, cut-at}
 use Rattle.net.specs.Held.{Held}
-use Rattle.print.specs.Texts.{viasOf, layersOf, netsText, turnsOf, totalsText, planText, Rows}
+use Rattle.print.specs.Texts.{viasOf, layersOf, netsText, turnsOf, totalsText, linesText, ldofText, planText, Rows}
+use Rattle.print.specs.declared.Ldof.{Ldof}
 use Rattle.put.specs.Wrote.{sets-overwrite}
 
 -- ---- a list number by number
@@ -41,7 +43,7 @@ module _ (j : Job) where
   vias-long (n ∷ ns) (y ∷ ys) h = ap suc (vias-long ns ys (omega arith))
 
   vias-at : (ns : List Net) (ys : List (List ℕ)) (k : ℕ) → length ys ≡ length ns → k < length ns
-      → getD (netVias j ns ys) k 0 ≡ vias j (getD ns k (record { pins = []; edges = [] }) .pins) (getD ns k (record { pins = []; edges = [] }) .edges) (getD ys k [])
+      → getD (netVias j ns ys) k 0 ≡ vias j (getD ns k noNet .pins) (getD ns k noNet .edges) (getD ys k [])
   vias-at [] ys k h b = absurd (omega arith)
   vias-at (n ∷ ns) [] k h b = absurd (omega arith)
   vias-at (n ∷ ns) (y ∷ ys) zero h b = refl
@@ -58,11 +60,11 @@ module _ (j : Job) (y : List (List ℕ)) (table answer : List ℕ) (held : Held 
   plan-long = sym (ap length (held .plan)) ∙ cut-length (netEdges j) answer ∙ edges-long
 
   -- net i + 1 stands at place i
-  at-place : (i : ℕ) → netOf j (suc i) ≡ getD (j .nets) i (record { pins = []; edges = [] })
-  at-place i = let e : suc i - 1 ≡ i = omega arith in ap (λ (k : ℕ). getD (j .nets) k (record { pins = []; edges = [] })) e
+  at-place : (i : ℕ) → netOf j (suc i) ≡ getD (j .nets) i noNet
+  at-place i = let e : suc i - 1 ≡ i = omega arith in ap (λ (k : ℕ). getD (j .nets) k noNet) e
 
   edges-at : (i : ℕ) → getD (netEdges j) i [] ≡ netOf j (suc i) .edges
-  edges-at i = List·getD-map {B = List ℕ} (λ n. n .edges) (j .nets) i (record { pins = []; edges = [] }) ∙ sym (ap (λ (n : Net). n .edges) (at-place i))
+  edges-at i = List·getD-map {B = List ℕ} (λ n. n .edges) (j .nets) i noNet ∙ sym (ap (λ (n : Net). n .edges) (at-place i))
 
   -- every net has its row, and its stretch is inside the answer list
   pub held-rows : netCount j ≤ mostNets → Rows (netCount j) table answer
@@ -110,31 +112,32 @@ module _ (j : Job) (y : List (List ℕ)) (table answer : List ℕ) (held : Held 
   pub nets-printed : netsText table answer 0 (netCount j) ≡ printNets 1 (netVias j (j .nets) y) y
   nets-printed = ap₂ (λ (vs : List ℕ) (ys : List (List ℕ)). printNets 1 vs ys) vias-are layers-are
 
-  -- the whole print
-  pub plan-printed : (turns : List Entry) → turnsOf table (netCount j) ≡ map (λ t. t .net) turns
-      → planText (netCount j) table answer (totalVias j y) (totalOverflow j y) (maxOverflow j y) ≡ printed j turns y
-  unfolding printed
-  plan-printed turns e =
+  lines-printed : (turns : List Entry) → turnsOf table (netCount j) ≡ map (λ t. t .net) turns
+      → linesText (netCount j) table answer (totalVias j y) (totalOverflow j y) (maxOverflow j y) ≡ planLines j turns y
+  lines-printed turns e =
       ap₂ (λ (o n : List ℕ). printLine "order" o ++ n ++ totalsText (totalVias j y) (totalOverflow j y) (maxOverflow j y)) e nets-printed
       ∙ regroup (printLine "order" (map (λ t. t .net) turns) ++ printNets 1 (netVias j (j .nets) y) y)
       (printLine "total_vias" (totalVias j y ∷ [])) (printLine "total_overflow" (totalOverflow j y ∷ [])) (printLine "max_overflow" (maxOverflow j y ∷ []))
 
+  -- the whole print
+  pub plan-printed : (turns : List Entry) → turnsOf table (netCount j) ≡ map (λ t. t .net) turns
+      → linesText (netCount j) table answer (totalVias j y) (totalOverflow j y) (maxOverflow j y) ++ ldofLine j ≡ printed j turns y
+  unfolding printed
+  plan-printed turns e = ap (λ (l : List ℕ). l ++ ldofLine j) (lines-printed turns e)
+
 -- ---- what is written for an accepted job
 
--- what stands past the end of the order
-abbrev pub noEntry : Entry
-noEntry = record { net = 0; score = 0 }
-
 -- what is handed over: N, the nets in placing order, which stand in the net table, and what is told of the plan
-pub record Handed (j : Job) (n : ℕ) (table : List ℕ) (vias total most : ℕ) : Type 0 where
+pub record Handed (j : Job) (n : ℕ) (table : List ℕ) (vias total most : ℕ) (last : Ldof) : Type 0 where
   pub count : n ≡ netCount j
-  pub turns : (k : ℕ) → k < n → getD table (turnColumn k) 0 ≡ getD (order j) k noEntry .net
+  pub turns : (k : ℕ) → k < n → getD table (turnColumn k) 0 ≡ entryAt (order j) k .net
   pub vias-told : vias ≡ totalVias j (plan j)
   pub total-told : total ≡ totalOverflow j (plan j)
   pub most-told : most ≡ maxOverflow j (plan j)
+  pub last-told : ldofText last ≡ ldofLine j
 
 module _ (lent : Lent) (j : Job) (acc : Accepted lent j) (table answer : List ℕ) (held : Held j (plan j) table answer)
-    (n vias total most : ℕ) (handed : Handed j n table vias total most) where
+    (n vias total most : ℕ) (last : Ldof) (handed : Handed j n table vias total most last) where
   pub plan-rows : Rows n table answer
   plan-rows i h = held-rows j (plan j) table answer held (acc .net-count) i (omega (arith, handed .count))
 
@@ -154,16 +157,17 @@ module _ (lent : Lent) (j : Job) (acc : Accepted lent j) (table answer : List �
           ∙ sym (List·getD-map {B = ℕ} (λ t. t .net) (order j) k noEntry)
 
   -- the text is the job's print
-  pub plan-text : planText n table answer vias total most ≡ printed j (order j) (plan j)
+  pub plan-text : planText n table answer vias total most last ≡ printed j (order j) (plan j)
   plan-text =
-      ap₂ (λ (m v : ℕ). planText m table answer v total most) (handed .count) (handed .vias-told)
-      ∙ ap₂ (λ (t m : ℕ). planText (netCount j) table answer (totalVias j (plan j)) t m) (handed .total-told) (handed .most-told)
+      ap₂ (λ (m v : ℕ). planText m table answer v total most last) (handed .count) (handed .vias-told)
+      ∙ ap₂ (λ (t m : ℕ). planText (netCount j) table answer (totalVias j (plan j)) t m last) (handed .total-told) (handed .most-told)
+      ∙ ap (λ (l : List ℕ). linesText (netCount j) table answer (totalVias j (plan j)) (totalOverflow j (plan j)) (maxOverflow j (plan j)) ++ l) (handed .last-told)
       ∙ plan-printed j (plan j) table answer held (order j) turns-are
 
   -- "a print buffer of 256 + 64 × N + 2 × A bytes" has room for it, and it fills its start
   module _ (w : List ℕ) (room : printNeed (netCount j) (entryCount j) ≤ length w) where
-    pub plan-fits : length (planText n table answer vias total most) ≤ length w
+    pub plan-fits : length (planText n table answer vias total most last) ≤ length w
     plan-fits = omega (arith, ap length plan-text, print-room lent j acc)
 
-    pub plan-overwrites : sets w 0 (planText n table answer vias total most) ≡ overwrite (printed j (order j) (plan j)) w
+    pub plan-overwrites : sets w 0 (planText n table answer vias total most last) ≡ overwrite (printed j (order j) (plan j)) w
     plan-overwrites = ap (sets w 0) plan-text ∙ sets-overwrite w (printed j (order j) (plan j)) (omega (arith, print-room lent j acc))

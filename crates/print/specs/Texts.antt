@@ -12,6 +12,8 @@ use Rattle.model.specs.Limits.{mostNets}
 use Rattle.model.specs.Lists.{upFrom}
 use Rattle.model.specs.Print.{printLine, printNet, printNets}
 use Rattle.theory.specs.congestion.Base.{length-upFrom}
+use Rattle.print.specs.declared.Ldof.{Ldof}
+use Rattle.print.specs.declared.Ldof.the-variants.{Absent, Sum}
 
 -- ---- the nets of the table, counted from 0
 
@@ -78,6 +80,14 @@ totalsText vias total most =
     printLine "total_vias" (vias ∷ []) ++ printLine "total_overflow" (total ∷ []) ++ printLine "max_overflow" (most ∷ [])
 
 -- the n nets in placing order, the n nets of the table, the totals
-abbrev pub planText : ℕ → List ℕ → List ℕ → ℕ → ℕ → ℕ → List ℕ
-planText n table answer vias total most =
+abbrev pub linesText : ℕ → List ℕ → List ℕ → ℕ → ℕ → ℕ → List ℕ
+linesText n table answer vias total most =
     printLine "order" (turnsOf table n) ++ netsText table answer 0 n ++ totalsText vias total most
+
+-- the line `ldof`, where it is printed
+abbrev pub ldofText : Ldof → List ℕ
+ldofText Absent = []
+ldofText (Sum v) = printLine "ldof" (v ∷ [])
+
+abbrev pub planText : ℕ → List ℕ → List ℕ → ℕ → ℕ → ℕ → Ldof → List ℕ
+planText n table answer vias total most last = linesText n table answer vias total most ++ ldofText last

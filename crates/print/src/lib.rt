@@ -10,7 +10,7 @@ ghost use Rattle.model.specs.Limits.{mostNets};
 ghost use Rattle.model.specs.Print.{printLine, printNet};
 ghost use Rattle.model.specs.Program.{written};
 ghost use Rattle.model.specs.Text.{decimal, decimals};
-ghost use Rattle.print.specs.Texts.{rowText, netsText, turnsOf, totalsText, planText, RowInside, Rows};
+ghost use Rattle.print.specs.Texts.{rowText, netsText, turnsOf, totalsText, linesText, ldofText, planText, RowInside, Rows};
 ghost use Rattle.put.specs.Wrote.{Wrote};
 
 // ---- the nets in placing order
@@ -132,24 +132,52 @@ fn put_totals(b: &mut [u8], at: usize, vias: u64, total: u64, most: u64) -> usiz
     put::line(b, c, b"max_overflow=", most)
 }
 
-// The numbers of a plan: how many nets it has, and its totals.
+// "printed as a last line `ldof`, in jobs that have a `low` line"
+pub enum Ldof {
+    Absent,
+    Sum(u64),
+}
+
+fn put_ldof(b: &mut [u8], at: usize, last: Ldof) -> usize
+    requires { ⌜ at + length (ldofText last) ≤ length (now b) ⌝ }
+    ensures { λ r. ⌜ Wrote at (ldofText last) (now (b .entry)) (now (b .exit)) r ⌝ }
+{
+    match last {
+        Ldof::Absent => at,
+        Ldof::Sum(v) => put::line(b, at, b"ldof=", v),
+    }
+}
+
+// The numbers of a plan: how many nets it has, its totals, and the last line.
 pub struct Counts {
     pub nets: usize,
     pub vias: u64,
     pub total: u64,
     pub most: u64,
+    pub last: Ldof,
 }
 
-// The printed plan from place 0 on: the net table has a row for each net, and in them the nets in placing order.
-pub fn put_plan(b: &mut [u8], table: &[u32], answer: &[u8], p: Counts) -> usize
+// The lines of every plan, from place 0 on: the net table has a row for each net, and in them the nets in placing order.
+fn put_lines(b: &mut [u8], table: &[u32], answer: &[u8], p: Counts) -> usize
     requires { ⌜ Rows (p .nets) (now table) (now answer) ⌝ }
-    requires { ⌜ length (planText (p .nets) (now table) (now answer) (p .vias) (p .total) (p .most)) ≤ length (now b) ⌝ }
-    ensures { λ _. ⌜ now (b .exit) ≡ sets (now (b .entry)) 0 (planText (p .nets) (now (table .entry)) (now (answer .entry)) (p .vias) (p .total) (p .most)) ⌝ }
-    ensures { λ r. ⌜ r ≡ length (planText (p .nets) (now (table .entry)) (now (answer .entry)) (p .vias) (p .total) (p .most)) ⌝ }
+    requires { ⌜ length (linesText (p .nets) (now table) (now answer) (p .vias) (p .total) (p .most)) ≤ length (now b) ⌝ }
+    ensures { λ r. ⌜ Wrote 0 (linesText (p .nets) (now (table .entry)) (now (answer .entry)) (p .vias) (p .total) (p .most)) (now (b .entry)) (now (b .exit)) r ⌝ }
 {
     let a = put_order(b, 0, table, p.nets);
     let c = put_nets(b, a, p.nets, table, answer);
     put_totals(b, c, p.vias, p.total, p.most)
+}
+
+// The printed plan from place 0 on.
+pub fn put_plan(b: &mut [u8], table: &[u32], answer: &[u8], p: Counts) -> usize
+    requires { ⌜ Rows (p .nets) (now table) (now answer) ⌝ }
+    requires { ⌜ length (planText (p .nets) (now table) (now answer) (p .vias) (p .total) (p .most) (p .last)) ≤ length (now b) ⌝ }
+    ensures { λ _. ⌜ now (b .exit) ≡ sets (now (b .entry)) 0 (planText (p .nets) (now (table .entry)) (now (answer .entry)) (p .vias) (p .total) (p .most) (p .last)) ⌝ }
+    ensures { λ r. ⌜ r ≡ length (planText (p .nets) (now (table .entry)) (now (answer .entry)) (p .vias) (p .total) (p .most) (p .last)) ⌝ }
+{
+    let last = p.last;
+    let a = put_lines(b, table, answer, p);
+    put_ldof(b, a, last)
 }
 
 // "or `refused=number,line`"

@@ -18,21 +18,24 @@ use Rattle.head.specs.declared.HeadRead.the-variants.{Head as headed, Refused a
 use Rattle.layout.specs.Areas.{loadsAt, demandAt, areasEnd, edge-room}
 use Rattle.layout.specs.Dirs.{dirsOf}
 use Rattle.layout.specs.Shapes.{shapeOf, Shaped}
-use Rattle.layout.specs.Table.{tableSize}
+use Rattle.layout.specs.Table.{tableSize, viasColumn}
 use Rattle.layout.specs.declared.Shape.{Shape}
 use Rattle.lines.specs.Told.{refusedBy}
-use Rattle.model.specs.Job.{Net, Job, netCount}
+use Rattle.model.specs.Job.{Net, Job, netCount, noNet}
 use Rattle.model.specs.Limits.{mostText}
 use Rattle.model.specs.Read.{Place, found, next, Lent, workingNeed, read}
 use Rattle.net.specs.SoFar.{Capacities}
-use Rattle.net.specs.Table.{Row, PinTiles}
+use Rattle.net.specs.Table.{Row, PinTiles, Marks, mark-stays}
 use Rattle.text.specs.Refusals.{placeOf}
 use Rattle.text.specs.declared.Cursor.{Cursor}
 use Rattle.text.specs.declared.Refusal.{Refusal}
+use Rattle.theory.specs.links.Directives.{low-inside}
+use Rattle.theory.specs.links.JobText.{option-few}
+use Rattle.theory.specs.links.Reading as reading
 use Rattle.theory.specs.links.Stretches.{offset}
-use Rattle.nets.specs.Nets.{SoRead, CountsCleared, NetsReady, noNet, edgesOf}
+use Rattle.nets.specs.Nets.{SoRead, CountsCleared, NetsReady, edgesOf}
 use Rattle.nets.specs.Rows.{RowAt}
-use Rattle.reader.specs.Whole.{lentBy, jobOf, RestFound, RestTold, JobFound, JobTold}
+use Rattle.reader.specs.Whole.{lentBy, jobOf, RestFound, RestTold, HeadFound, JobFound, JobTold}
 use Rattle.reader.specs.declared.JobRead.{JobRead}
 use Rattle.reader.specs.declared.JobRead.the-variants.{Job as accepted, Refused}
 use Rattle.reader.specs.declared.PrintRoom.{PrintRoom}
@@ -75,19 +78,20 @@ shape-is g shaped i = record {
   dirs = g .dirs;
 }
 
-module _ (s : List ℕ) (order : ℕ) (w : List ℕ) (w₁ : List ℕ) (r : HeadRead)
-    (told : headTold s w₁ r ≡ headIn (length s) (length w) order (record { line = 0; rest = s })) (answer : ℕ) (print : PrintRoom) where
-  abbrev lent : Lent
-  lent = lentBy (length w) order answer print
+-- ---- the head
 
-  pub no-head : (f : Refusal) → r ≡ Unheaded f → read (lentBy (length w) order answer print) s ≡ refusedBy f
-  no-head f e = read-by lent s w₁ r told ∙ ap (λ (x : HeadRead). next (headTold s w₁ x) (restIn lent)) e
+module _ (s : List ℕ) (order : ℕ) (w : List ℕ) (w₁ : List ℕ) (r : HeadRead)
+    (told : headTold s w₁ r ≡ headIn (length s) (length w) order (record { line = 0; rest = s })) where
+  pub no-head : (f : Refusal) → r ≡ Unheaded f → (answer : ℕ) (print : PrintRoom) → read (lentBy (length w) order answer print) s ≡ refusedBy f
+  no-head f e answer print =
+      let lent = lentBy (length w) order answer print in
+      read-by lent s w₁ r told ∙ ap (λ (x : HeadRead). next (headTold s w₁ x) (restIn lent)) e
 
   module _ (h : Head) (c : Cursor) (e : r ≡ headed h c) (holds : headHolds (length s) order w w₁ r) (long : length w₁ ≡ length w) where
     pub head-holds : Holds (length s) order w w₁ h c
     head-holds = subst (λ (x : HeadRead). headHolds (length s) order w w₁ x) e holds
 
-    pub short-text : length s ≤ 1048576
+    short-text : length s ≤ 1048576
     short-text =
         text-fits (length s) (length w) order (record { line = 0; rest = s }) (placeOf s c) (headJob h w₁) (sym told ∙ ap (headTold s w₁) e)
 
@@ -101,83 +105,98 @@ module _ (s : List ℕ) (order : ℕ) (w : List ℕ) (w₁ : List ℕ) (r : Head
     pub areas-fit : areasEnd (h .shape) ≤ length w₁
     areas-fit = omega (arith, need-is, head-holds .working, head-holds .shaped .m-is)
 
-    read-head-on : read (lentBy (length w) order answer print) s ≡ restIn (lentBy (length w) order answer print) (headJob h w₁) (placeOf s c)
-    read-head-on = read-by lent s w₁ r told ∙ ap (λ (x : HeadRead). next (headTold s w₁ x) (restIn lent)) e
-
     -- the working numbers v, with zeros in what the nets are counted and marked in
     module _ (v : List ℕ) (cleared : CountsCleared (h .shape) w₁ v) where
-      pub nets-may-start : (table : List ℕ) → tableSize ≤ length table → NetsReady (h .shape) v table
-      nets-may-start table t = record {
-        room = omega (arith, areas-fit, cleared .long);
-        demands = λ k a b. cleared .counts k (omega arith) b;
-        kept = cleared .kept;
-        table-long = t;
-      }
-
       -- the capacities are those of the head
-      read-on : read (lentBy (length w) order answer print) s ≡ restIn (lentBy (length w) order answer print) (headJob h v) (placeOf s c)
-      read-on =
-          read-head-on
+      read-on : (answer : ℕ) (print : PrintRoom) → read (lentBy (length w) order answer print) s ≡ restIn (lentBy (length w) order answer print) (headJob h v) (placeOf s c)
+      read-on answer print =
+          let lent = lentBy (length w) order answer print in
+          read-by lent s w₁ r told
+          ∙ ap (λ (x : HeadRead). next (headTold s w₁ x) (restIn lent)) e
           ∙ ap (λ (cs : List (List ℕ)). restIn lent (record { width = h .shape .w; height = h .shape .h; layers = h .shape .k; dirs = dirsOf (h .shape .k) (h .shape .dirs); alpha = h .alpha; beta = h .beta; gamma = h .gamma; capacities = cs; nets = h .nets }) (placeOf s c))
           (sym (capacities-same (h .shape) w₁ v (cleared .low)))
 
-      -- the rest after the head
-      module _ (w₂ table : List ℕ) where
-        pub rest-refused : (f : Refusal) → ((working order : ℕ) → restIn (lentBy working order answer print) (headJob h v) (placeOf s c) ≡ refusedBy f)
-            → read (lentBy (length w) order answer print) s ≡ refusedBy f
-        rest-refused f k = read-on ∙ k (length w) order
+      pub head-found : HeadFound s (length w) order v h c
+      head-found = record {
+        is = read-on;
+        shaped = head-holds .shaped;
+        nets = head-holds .nets;
+        place = head-holds .place;
+        lines = omega (arith, head-holds .lines, head-holds .shaped .k-most, option-few (dirsOf (h .shape .k) (h .shape .dirs)));
+        short = short-text;
+        room = omega (arith, areas-fit, cleared .long);
+        counts = cleared .counts;
+        kept = cleared .kept;
+      }
 
-        module _ (found-rest : RestFound s h answer print (placeOf s c) v w₂ table) where
-          abbrev ns : List Net
-          ns = found-rest .nets-read
+-- ---- and the rest behind it
 
-          abbrev job : Job
-          job = jobOf h v (found-rest .nets-read)
+module _ (s : List ℕ) (working order : ℕ) (v : List ℕ) (h : Head) (c : Cursor) (head : HeadFound s working order v h c) where
+  pub nets-may-start : (table : List ℕ) → tableSize ≤ length table → NetsReady (h .shape) v table
+  nets-may-start table t = record { room = omega (arith, head .room); demands = λ k a b. head .counts k (omega arith) b; kept = head .kept; table-long = t }
 
-          abbrev so : SoRead s (h .shape) (found-rest .nets-read) (found-rest .entries) v w₂ table
-          so = found-rest .so-read
+  module _ (answer : ℕ) (print : PrintRoom) (w₂ table : List ℕ) where
+    abbrev lent : Lent
+    lent = lentBy working order answer print
 
-          capacities-are : Capacities (h .shape) (jobOf h v (found-rest .nets-read)) w₂
-          capacities-are = record {
-            caps = λ a l b x y.
-                so .low (a * h .shape .k + (l - 1)) (omega (arith, edge-room (h .shape) a b))
-                ∙ sym (capacity-in job (h .shape) v refl a l b x y);
-          }
+    module _ (found-rest : RestFound s h answer print (placeOf s c) v w₂ table) where
+      abbrev ns : List Net
+      ns = found-rest .nets-read
 
-          row-is : (i : ℕ) → i < netCount (jobOf h v (found-rest .nets-read)) → Row s (jobOf h v (found-rest .nets-read)) table i
-          row-is i b =
-              let z : i ≡ suc i - 1 = omega arith in
-              let k = subst (λ (m : ℕ). RowAt s (h .shape .w) (h .shape .h) (h .shape .k) table i (offset (edgesOf ns) i) (getD ns m noNet)) z (so .rows i b) in
-              record { pins = k .pins; edges = k .edges; edge-count = k .edge-count; first = k .first-is }
+      abbrev job : Job
+      job = jobOf h v (found-rest .nets-read)
 
-          pin-tiles-are : PinTiles (jobOf h v (found-rest .nets-read)) table
-          pin-tiles-are i b =
-              let z : i ≡ suc i - 1 = omega arith in
-              subst (λ (m : ℕ). RowAt s (h .shape .w) (h .shape .h) (h .shape .k) table i (offset (edgesOf ns) i) (getD ns m noNet)) z (so .rows i b) .pin-tiles
+      abbrev so : SoRead s (h .shape) (found-rest .nets-read) (found-rest .entries) v w₂ table
+      so = found-rest .so-read
 
-          pub job-found : JobFound s (lentBy (length w) order answer print) w₂ table h
-          job-found = record {
-            job = job;
-            place = found-rest .place;
-            is = read-on ∙ found-rest .is (length w) order;
-            checked = record {
-              shape = shape-is (h .shape) (head-holds .shaped);
-              dirs = refl;
-              shaped = head-holds .shaped;
-              room = omega (arith, areas-fit, cleared .long, so .long);
-              capacities = capacities-are;
-              loads = λ i a b. so .low i b ∙ cleared .counts i a (omega arith);
-              demand = so .demands;
-              marks = so .marks;
-              rows = record { long = so .table-long; rows = row-is };
-              pin-tiles = pin-tiles-are;
-            };
-            alpha = refl;
-            beta = refl;
-            gamma = refl;
-            nets = sym (found-rest .count);
-          }
+      capacities-are : Capacities (h .shape) (jobOf h v (found-rest .nets-read)) w₂
+      capacities-are = record {
+        caps = λ a l b x y.
+            so .low (a * h .shape .k + (l - 1)) (omega (arith, edge-room (h .shape) a b))
+            ∙ sym (capacity-in job (h .shape) v refl a l b x y);
+      }
 
-      pub job-told : (w₂ table : List ℕ) (a : JobRead) → RestTold s h answer print (placeOf s c) v w₂ table a → JobTold s (lentBy (length w) order answer print) w₂ table a
-      job-told w₂ table (Refused f) t = rest-refused w₂ table f t
-      job-told w₂ table (accepted k) t = subst (λ (x : Head). JobFound s lent w₂ table x) (sym (t .0)) (job-found w₂ table (t .1))
+      row-is : (i : ℕ) → i < netCount (jobOf h v (found-rest .nets-read)) → Row s (jobOf h v (found-rest .nets-read)) table i
+      row-is i b =
+          let z : i ≡ suc i - 1 = omega arith in
+          let k = subst (λ (m : ℕ). RowAt s (h .shape .w) (h .shape .h) (h .shape .k) table i (offset (edgesOf ns) i) (getD ns m noNet)) z (so .rows i b) in
+          record { pins = k .pins; edges = k .edges; edge-count = k .edge-count; first = k .first-is }
+
+      pin-tiles-are : PinTiles (jobOf h v (found-rest .nets-read)) table
+      pin-tiles-are i b =
+          let z : i ≡ suc i - 1 = omega arith in
+          subst (λ (m : ℕ). RowAt s (h .shape .w) (h .shape .h) (h .shape .k) table i (offset (edgesOf ns) i) (getD ns m noNet)) z (so .rows i b) .pin-tiles
+
+      lows-are : reading.Accepted (lentBy working order answer print) (jobOf h v (found-rest .nets-read)) → Marks (jobOf h v (found-rest .nets-read)) table
+      lows-are acc i b =
+          let z : i ≡ suc i - 1 = omega arith in
+          let e = subst (λ (m : ℕ). RowAt s (h .shape .w) (h .shape .h) (h .shape .k) table i (offset (edgesOf ns) i) (getD ns m noNet)) z (so .rows i b) .low-is in
+          mark-stays (getD table (viasColumn i) 0) (getD ns (suc i - 1) noNet .low) e (omega (arith, acc .layers .1, low-inside job lent acc i b))
+
+      job-found : JobFound s (lentBy working order answer print) w₂ table h
+      job-found = record {
+        job = job;
+        place = found-rest .place;
+        is = head .is answer print ∙ found-rest .is working order;
+        checked = record {
+          shape = shape-is (h .shape) (head .shaped);
+          dirs = refl;
+          shaped = head .shaped;
+          room = omega (arith, head .room, so .long);
+          capacities = capacities-are;
+          loads = λ i a b. so .low i b ∙ head .counts i a (omega arith);
+          demand = so .demands;
+          marks = so .marks;
+          rows = record { long = so .table-long; rows = row-is };
+          pin-tiles = pin-tiles-are;
+          lows = lows-are (reading.accepted lent s job (found-rest .place) (head .is answer print ∙ found-rest .is working order));
+        };
+        alpha = refl;
+        beta = refl;
+        gamma = refl;
+        nets = sym (found-rest .count);
+      }
+
+    pub job-told : (a : JobRead) → RestTold s h answer print (placeOf s c) v w₂ table a → JobTold s (lentBy working order answer print) w₂ table a
+    job-told (Refused f) t = head .is answer print ∙ t working order
+    job-told (accepted k) t = subst (λ (x : Head). JobFound s lent w₂ table x) (sym (t .0)) (job-found (t .1))

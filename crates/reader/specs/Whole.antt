@@ -4,20 +4,26 @@ use mathlib.Core.Bool.{_&&_}
 use mathlib.Core.List.{List}
 use mathlib.Core.Option.{Option, none, some}
 use mathlib.Core.Path.{_≡_, refl}
-use Prim.Native.Nat.{ℕ}
+use Prim.Native.Nat.{ℕ, _≤_, _<_}
 use lib.Dec.{leb}
-use lib.ListN.{length}
+use lib.ListN.{length, getD}
 use Rattle.capacities.specs.Capacities.{capacitiesOf}
 use Rattle.head.specs.Reads.{restIn}
 use Rattle.head.specs.Told.{headJob}
 use Rattle.head.specs.declared.Head.{Head}
+use Rattle.head.specs.declared.HeadRead.{HeadRead}
+use Rattle.head.specs.declared.HeadRead.the-variants.{Head as headed, Refused as Unheaded}
+use Rattle.layout.specs.Areas.{loadsAt, flatAt, tilesAt, chosenAt, areasEnd}
 use Rattle.layout.specs.Dirs.{dirsOf}
-use Rattle.layout.specs.Shapes.{sizesOf}
+use Rattle.layout.specs.Shapes.{sizesOf, Shaped}
 use Rattle.lines.specs.Told.{refusedBy}
 use Rattle.model.specs.Job.{Net, Job, netCount, entryCount}
+use Rattle.model.specs.Limits.{mostNets}
 use Rattle.model.specs.Read.{Place, Result, Reading, refused, found, next, _>>_, give, need, nets, Lent, printNeed, printFits, end, read}
 use Rattle.net.specs.Checked.{Checked}
 use Rattle.nets.specs.Nets.{SoRead}
+use Rattle.text.specs.Refusals.{placeOf}
+use Rattle.text.specs.declared.Cursor.{Cursor}
 use Rattle.reader.specs.declared.PrintRoom.{PrintRoom}
 use Rattle.reader.specs.declared.PrintRoom.the-variants.{Absent, Bytes}
 use Rattle.reader.specs.declared.JobRead.{JobRead}
@@ -86,6 +92,22 @@ RestTold s h answer print p w₀ w table (Refused r) = (working order : ℕ) →
 RestTold s h answer print p w₀ w table (accepted k) = (k ≡ h) × RestFound s h answer print p w₀ w table
 
 -- ---- the whole
+
+-- The head h is read up to c, its capacities stand in the working numbers w, and what the nets are counted and marked in is zero: the rest of the text decides.
+pub record HeadFound (s : List ℕ) (working order : ℕ) (w : List ℕ) (h : Head) (c : Cursor) : Type 0 where
+  pub is : (answer : ℕ) (print : PrintRoom) → read (lentBy working order answer print) s ≡ restIn (lentBy working order answer print) (headJob h w) (placeOf s c)
+  pub shaped : Shaped (h .shape)
+  pub nets : h .nets ≤ mostNets
+  pub place : c .at ≤ length s
+  pub lines : c .line < 1000
+  pub short : length s ≤ 1048576
+  pub room : areasEnd (h .shape) ≤ length w
+  pub counts : (k : ℕ) → loadsAt (h .shape) ≤ k → k < flatAt (h .shape) → getD w k 0 ≡ 0
+  pub kept : (k : ℕ) → tilesAt (h .shape) ≤ k → k < chosenAt (h .shape) → getD w k 0 ≡ 0
+
+abbrev pub HeadTold : List ℕ → ℕ → ℕ → List ℕ → HeadRead → Type 0
+HeadTold s working order w (Unheaded r) = (answer : ℕ) (print : PrintRoom) → read (lentBy working order answer print) s ≡ refusedBy r
+HeadTold s working order w (headed h c) = HeadFound s working order w h c
 
 -- the job that the definitions read: its numbers, and what the working numbers and the net table hold of it
 pub record JobFound (s : List ℕ) (lent : Lent) (w table : List ℕ) (h : Head) : Type 0 where

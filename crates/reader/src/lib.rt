@@ -17,8 +17,8 @@ ghost use Rattle.layout.specs.Table.{tableSize};
 ghost use Rattle.model.specs.Limits.{mostNets};
 ghost use Rattle.model.specs.Read.{nets, printNeed, printFits};
 ghost use Rattle.text.specs.Refusals.{placeOf};
-ghost use Rattle.nets.specs.Nets.{turnTold, PartCleared, CountsCleared, NetsReady};
-ghost use Rattle.reader.specs.Whole.{printLent, lentBy, endIn, RestTold, JobTold};
+ghost use Rattle.nets.specs.Nets.{turnTold, CountsCleared, NetsReady};
+ghost use Rattle.reader.specs.Whole.{printLent, lentBy, endIn, RestTold, HeadTold, JobTold};
 
 // The print buffer that is lent: its length, or none for Plan.
 pub enum PrintRoom {
@@ -26,8 +26,9 @@ pub enum PrintRoom {
     Bytes(usize),
 }
 
-// What is tested once the text is whole: the length of the answer list, and the print buffer.
+// What is lent beside the working numbers: the lengths of the order list and of the answer list, and the print buffer.
 pub struct Lists {
+    pub order: usize,
     pub answer: usize,
     pub print: PrintRoom,
 }
@@ -91,43 +92,40 @@ fn read_rest(
     }
 }
 
-// Zeroes the numbers from `from` up to `to`.
-fn clear_part(w: &mut [u32], from: usize, to: usize)
-    requires { ⌜ (from ≤ to) × (to ≤ length (now w)) ⌝ }
-    ensures { λ _. ⌜ PartCleared from to (now (w .entry)) (now (w .exit)) ⌝ }
-{
-    layout::clear(&mut w[from..to]);
-}
-
 // Zeroes what the nets are counted and marked in: the nets on each layer, d(e), and what is kept by tile.
 fn clear_counts(w: &mut [u32], g: Shape)
     requires { ⌜ Shaped g ⌝ }
     requires { ⌜ chosenAt g ≤ length (now w) ⌝ }
     ensures { λ _. ⌜ CountsCleared g (now (w .entry)) (now (w .exit)) ⌝ }
 {
-    clear_part(w, layout::loads_at(g), layout::flat_at(g));
-    clear_part(w, layout::tiles_at(g), layout::chosen_at(g));
+    layout::clear_part(w, layout::loads_at(g), layout::flat_at(g));
+    layout::clear_part(w, layout::tiles_at(g), layout::chosen_at(g));
 }
 
-// The whole text s. The working numbers w may hold anything before; `order`, `answer` and `print` are the lengths of what else is lent. After a refusal the
-// working numbers and the net table may hold anything.
-pub fn read_job(
-    s: &[u8],
-    w: &mut [u32],
-    table: &mut [u32],
-    order: usize,
-    answer: usize,
-    print: PrintRoom,
-) -> JobRead
-    requires { ⌜ tableSize ≤ length (now table) ⌝ }
-    ensures { λ r. ⌜ JobTold (now (s .entry)) (lentBy (length (now (w .entry))) order answer print) (now (w .exit)) (now (table .exit)) r ⌝ }
-    ensures { λ _. ⌜ (length (now (w .exit)) ≡ length (now (w .entry))) × (length (now (table .exit)) ≡ length (now (table .entry))) ⌝ }
+// The head of the text s, and the working numbers made ready for its nets; they may hold anything before. `order` is the length of the lent order list.
+pub fn open_head(s: &[u8], w: &mut [u32], order: usize) -> HeadRead
+    ensures { λ r. ⌜ HeadTold (now (s .entry)) (length (now (w .entry))) order (now (w .exit)) r ⌝ }
+    ensures { λ _. ⌜ length (now (w .exit)) ≡ length (now (w .entry)) ⌝ }
 {
     match head::read_head(s, w, order) {
-        HeadRead::Refused(r) => JobRead::Refused(r),
+        HeadRead::Refused(r) => HeadRead::Refused(r),
         HeadRead::Head(h, c) => {
             clear_counts(w, h.shape);
-            read_rest(s, h, c, w, table, Lists { answer, print })
+            HeadRead::Head(h, c)
         }
+    }
+}
+
+// The whole text s, whose head is read. The head is not read here, where compiled code would hold its numbers through the loops over the nets. After a refusal the
+// working numbers and the net table may hold anything.
+pub fn read_job(s: &[u8], w: &mut [u32], table: &mut [u32], head: HeadRead, lists: Lists) -> JobRead
+    requires { ⌜ HeadTold (now s) (length (now w)) (lists .order) (now w) head ⌝ }
+    requires { ⌜ tableSize ≤ length (now table) ⌝ }
+    ensures { λ r. ⌜ JobTold (now (s .entry)) (lentBy (length (now (w .entry))) (lists .order) (lists .answer) (lists .print)) (now (w .exit)) (now (table .exit)) r ⌝ }
+    ensures { λ _. ⌜ (length (now (w .exit)) ≡ length (now (w .entry))) × (length (now (table .exit)) ≡ length (now (table .entry))) ⌝ }
+{
+    match head {
+        HeadRead::Refused(r) => JobRead::Refused(r),
+        HeadRead::Head(h, c) => read_rest(s, h, c, w, table, lists),
     }
 }

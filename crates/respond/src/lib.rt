@@ -27,7 +27,11 @@ fn print_input(input: &[u8], out: &mut [u8]) -> Printed
     ensures { λ r. ⌜ Answered (now (input .entry)) (now (out .entry)) (now (out .exit)) r ⌝ }
 {
     let mut work = [0u32; WORKING];
-    let mut order = [Entry { net: 0, score: 0 }; ENTRIES];
+    let mut order = [Entry {
+        net: 0,
+        low: 0,
+        score: 0,
+    }; ENTRIES];
     let mut answer = [0u8; ANSWER];
     calls::print(input, &mut work, &mut order, &mut answer, out)
 }

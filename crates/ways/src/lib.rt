@@ -3,12 +3,16 @@
 use layout::Shape;
 use layout::Way;
 use marks::Put;
+ghost use mathlib.Core.Bool.{true};
 ghost use mathlib.Core.Path.{_≡_};
 ghost use Prim.Native.Nat.{_+_, _/_, _<_, _≤_};
 ghost use lib.ListN.{length};
 ghost use Rattle.layout.specs.Shapes.{Shaped, wayOf};
 ghost use Rattle.marks.specs.Marks.{marksAfter};
 ghost use Rattle.marks.specs.Words.{mostStamp};
+ghost use Rattle.model.specs.Read.{edgeInside};
+ghost use Rattle.scan.specs.Pins.{triple};
+ghost use Rattle.ways.specs.Entry.{edgeOf};
 ghost use Rattle.ways.specs.Ends.{firstMark, endsOf, endsAfter};
 
 // What marking an edge found: it is marked already, or how many of its two tiles had no mark.
@@ -32,6 +36,19 @@ pub fn way_on(g: Shape, here: usize, y: usize, d: usize) -> Way
             tile: here + g.w,
             edge: g.east + here,
         },
+    }
+}
+
+// The number of the edge that an entry inside the grid names.
+pub fn edge_of(g: Shape, x: usize, y: usize, d: usize) -> usize
+    requires { ⌜ Shaped g ⌝ }
+    requires { ⌜ (d ≤ 1) × (edgeInside (g .w) (g .h) (triple x y d) ≡ true) ⌝ }
+    ensures { λ r. ⌜ (r ≡ edgeOf g (triple x y d)) × (r < g .e) ⌝ }
+{
+    let here = layout::tile_at(g, x, y);
+    match d {
+        0 => here - y,
+        _ => g.east + here,
     }
 }
 

@@ -56,7 +56,8 @@ pub enum Command {
         /// Write the same figures as JSON
         #[arg(long)]
         json: bool,
-        /// How many of the most crowded edges, and of the nets with most vias, are listed
+        /// How many of the most crowded edges, of those with most directive excess, and of the nets with most vias, are
+        /// listed
         #[arg(long, value_name = "N", default_value_t = 10, value_parser = clap::value_parser!(u32).range(1..))]
         top: u32,
     },

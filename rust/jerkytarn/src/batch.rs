@@ -104,7 +104,7 @@ fn plan_and_write(block: &Block, planner: &mut Planner) -> Result<End, Fault> {
             if let Some(results) = &block.results {
                 write_result(&results.plan, printed, &results.refused)?;
             }
-            Ok(End::Accepted(planned.totals))
+            Ok(End::Accepted { totals: planned.totals, ldof: planned.ldof })
         }
         Err(refusal) => {
             if let Some(results) = &block.results {

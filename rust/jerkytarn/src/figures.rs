@@ -1,5 +1,10 @@
-//! What can be counted of a planned block: who uses which edge on which layer, and where the vias stand. It is counted
-//! from the job and the library's answer list, and held to the figures that the library returned.
+//! What can be counted of a planned block: who uses which edge on which layer, where the vias stand, and, in
+//! `directives`, which layers the nets want. It is counted from the job and the library's answer list, and held to the
+//! figures that the library returned.
+
+mod directives;
+
+pub use directives::{AtEdge, Directives, Wanted};
 
 use crate::fault::Fault;
 use crate::job::{self, Grid, Job, Net, Way};
@@ -12,7 +17,7 @@ use std::cmp::Reverse;
 pub struct Block {
     pub job: Job,
     pub totals: Totals,
-    /// The nets with their scores, in placing order.
+    /// The nets with their lowest wanted layers and scores, in placing order.
     pub order: Vec<Entry>,
     /// The layers of each net's edges, in the order of its `edges` line.
     pub layers: Vec<Vec<u8>>,
@@ -24,6 +29,8 @@ pub struct Block {
     pub net_vias: Vec<usize>,
     /// The vias of all nets at each tile: by level between layers from the bottom, then by tile.
     pub tile_vias: Vec<Vec<usize>>,
+    /// What the `low` lines ask for; none where the job has no such line.
+    pub directives: Option<Directives>,
 }
 
 /// A layer's edge: the layer from 1, and the edge's number.
@@ -58,8 +65,9 @@ pub struct Limits {
 
 /// Plans a text and counts its figures: the block, or the library's refusal.
 pub fn plan(planner: &mut Planner, text: &[u8]) -> Result<Result<Block, Refusal>, Fault> {
-    match planner.plan(text) {
-        Ok(planned) => of(planned, text).map(Ok),
+    // Print is asked, not Plan: it alone gives `ldof`
+    match planner.print(text) {
+        Ok((_, planned)) => of(planned, text).map(Ok),
         Err(refusal) => Ok(Err(refusal)),
     }
 }
@@ -68,8 +76,9 @@ pub fn plan(planner: &mut Planner, text: &[u8]) -> Result<Result<Block, Refusal>
 pub fn of(planned: Planned, text: &[u8]) -> Result<Block, Fault> {
     let unlike = |what: &str| Fault::new(format!("a fault of this program, please report it: {what}"));
     let job = job::read(text).ok_or_else(|| unlike("a text that the library accepts was not understood here"))?;
+    let ldof = planned.ldof;
     let block = count(job, planned).ok_or_else(|| unlike("the library's answer does not fit the job as read here"))?;
-    match block.agrees() {
+    match block.agrees(ldof) {
         true => Ok(block),
         false => Err(unlike("the figures counted here are not those that the library returned")),
     }
@@ -86,6 +95,7 @@ fn count(job: Job, planned: Planned) -> Option<Block> {
         demand: vec![0; edges],
         net_vias: Vec::with_capacity(job.nets.len()),
         tile_vias: vec![vec![0; job.grid.tiles()]; layers.saturating_sub(1)],
+        directives: None,
         job,
     };
     let mut masks = Masks::new(block.job.grid);
@@ -100,6 +110,7 @@ fn count(job: Job, planned: Planned) -> Option<Block> {
         }
         block.net_vias.push(masks.count(net, layers, &mut block.tile_vias));
     }
+    block.directives = Directives::of(&block.job, &block.layers);
     Some(block)
 }
 
@@ -224,23 +235,57 @@ impl Block {
         places
     }
 
-    /// That the counts are the library's own figures.
-    fn agrees(&self) -> bool {
+    /// That the counts are the library's own figures, `ldof` among them.
+    fn agrees(&self, ldof: Option<u64>) -> bool {
         let vias: usize = self.net_vias.iter().sum();
         let levels: usize = self.tile_vias.iter().flatten().sum();
         let Overflow { total, maximum } = self.layered_overflow();
         let counted = Totals { vias: vias as u64, overflow: total as u64, maximum: maximum as u64 };
-        counted == self.totals && levels == vias
+        let counted_ldof = self.directives.as_ref().map(|directives| directives.ldof() as u64);
+        counted == self.totals
+            && levels == vias
+            && counted_ldof == ldof
+            && self.order.iter().all(|entry| self.knows(entry))
+    }
+
+    /// That an entry of the order list has the lowest wanted layer of its net.
+    fn knows(&self, entry: &Entry) -> bool {
+        let net = self.job.nets.get((entry.net as usize).wrapping_sub(1));
+        net.is_some_and(|net| net.wants() == entry.low as usize)
     }
 }
 
 /// The example with directions, planned by hand.
 #[cfg(test)]
 pub fn directed_example() -> Block {
-    let order = [(2, 3000), (3, 3000), (4, 3000), (1, 2333)].map(|(net, score)| Entry { net, score });
+    let order = [(2, 3000), (3, 3000), (4, 3000), (1, 2333)].map(|(net, score)| Entry { net, low: 1, score });
     let totals = Totals { vias: 4, overflow: 2, maximum: 1 };
-    let planned = Planned { totals, order: &order, answer: &[3, 3, 2, 1, 1, 1] };
+    let planned = Planned { totals, ldof: None, order: &order, answer: &[3, 3, 2, 1, 1, 1] };
     of(planned, include_bytes!("../../../examples/directed.job")).unwrap()
+}
+
+/// The order list of the example with wanted layers.
+#[cfg(test)]
+const TIMING_ORDER: [Entry; 6] = [
+    Entry { net: 3, low: 2, score: 3000 },
+    Entry { net: 4, low: 1, score: 3000 },
+    Entry { net: 6, low: 1, score: 3000 },
+    Entry { net: 2, low: 3, score: 2500 },
+    Entry { net: 5, low: 2, score: 2500 },
+    Entry { net: 1, low: 3, score: 2250 },
+];
+
+/// What the library gives for the example with wanted layers, by hand.
+#[cfg(test)]
+fn timing_plan() -> Planned<'static> {
+    let totals = Totals { vias: 5, overflow: 0, maximum: 0 };
+    Planned { totals, ldof: Some(3), order: &TIMING_ORDER, answer: &[1, 3, 1, 1, 1, 1, 1, 1, 2, 2, 1] }
+}
+
+/// The example with wanted layers, planned by hand.
+#[cfg(test)]
+pub fn timing_example() -> Block {
+    of(timing_plan(), include_bytes!("../../../examples/timing.job")).unwrap()
 }
 
 #[cfg(test)]
@@ -268,8 +313,9 @@ mod tests {
                  nets=1\nnet=1\npins=0,0,1\nedges=0,0,e\n"
             );
             let totals = Totals { vias: 0, overflow: 1, maximum: 1 };
-            let order = [Entry { net: 1, score: 2000 }];
-            let block = of(Planned { totals, order: &order, answer: &[1] }, text.as_bytes()).unwrap();
+            let order = [Entry { net: 1, low: 1, score: 2000 }];
+            let planned = Planned { totals, ldof: None, order: &order, answer: &[1] };
+            let block = of(planned, text.as_bytes()).unwrap();
             assert_eq!(block.limits(), Some(Limits { east: 1, north: 0 }), "{dirs}");
         }
     }
@@ -278,7 +324,7 @@ mod tests {
     fn an_edge_on_a_layer_that_runs_the_other_way_does_not_fit() {
         let block = directed_example();
         let answer = |layers: &[u8]| {
-            let planned = Planned { totals: block.totals, order: &block.order, answer: layers };
+            let planned = Planned { totals: block.totals, ldof: None, order: &block.order, answer: layers };
             count(block.job.clone(), planned).is_some()
         };
         assert!(answer(&[3, 3, 2, 1, 1, 1]) && answer(&[1, 1, 2, 1, 1, 1]));
@@ -299,13 +345,34 @@ mod tests {
     }
 
     #[test]
+    fn wanted_layers_are_held_to_the_librarys() {
+        let text = include_bytes!("../../../examples/timing.job");
+        let block = plan(&mut Planner::new(), text).unwrap().unwrap();
+        assert_eq!((&block.order[..], &block.directives), (&TIMING_ORDER[..], &timing_example().directives));
+        assert_eq!(plan(&mut Planner::new(), EXAMPLE).unwrap().unwrap().directives, None);
+        for ldof in [None, Some(2), Some(4)] {
+            assert!(of(Planned { ldof, ..timing_plan() }, text).is_err());
+        }
+        let mut order = TIMING_ORDER;
+        order[0].low = 1;
+        assert!(of(Planned { order: &order, ..timing_plan() }, text).is_err());
+    }
+
+    #[test]
+    fn a_low_line_of_1_is_counted_as_one() {
+        let text = std::str::from_utf8(EXAMPLE).unwrap().replace("net=2\n", "net=2\nlow=1\n");
+        let directives = plan(&mut Planner::new(), text.as_bytes()).unwrap().unwrap().directives.unwrap();
+        assert_eq!((directives.ldof(), directives.nets(), directives.most_excess(9)), (0, 0, vec![]));
+    }
+
+    #[test]
     fn the_fuller_of_two_wide_edges_comes_first() {
         let text =
             b"width=3\nheight=1\nlayers=2\nalpha=1\nbeta=0\ngamma=0\neast=65535,65534\nnorth=\neast=0,0\nnorth=\n\
             nets=1\nnet=1\npins=0,0,1\nedges=0,0,e;1,0,e\n";
         let totals = Totals { vias: 0, overflow: 0, maximum: 0 };
-        let order = [Entry { net: 1, score: 500 }];
-        let block = of(Planned { totals, order: &order, answer: &[1, 1] }, text).unwrap();
+        let order = [Entry { net: 1, low: 1, score: 500 }];
+        let block = of(Planned { totals, ldof: None, order: &order, answer: &[1, 1] }, text).unwrap();
         let edges: Vec<usize> = block.most_crowded(9).iter().map(|at| at.edge).collect();
         assert_eq!(edges, [1, 0]);
     }

@@ -128,11 +128,18 @@ pub struct Pin {
 /// A net: its pins and the numbers of its edges, each in the order of its line.
 #[derive(Clone, PartialEq, Eq, Debug, Default)]
 pub struct Net {
+    /// The number on its `low` line; none where it has no such line.
+    pub low: Option<usize>,
     pub pins: Vec<Pin>,
     pub edges: Vec<usize>,
 }
 
 impl Net {
+    /// The lowest layer that its timing wants: 1, so any layer, where it has no `low` line.
+    pub fn wants(&self) -> usize {
+        self.low.unwrap_or(1)
+    }
+
     /// In how many different tiles its pins are: pins on several layers of a tile count once in the score.
     pub fn pin_tiles(&self) -> usize {
         self.pins.iter().map(|pin| (pin.tile.x, pin.tile.y)).collect::<BTreeSet<_>>().len()
@@ -171,6 +178,8 @@ pub enum Kind {
     North(usize),
     Nets,
     Net(usize),
+    /// A line that may be left out.
+    Low(usize),
     Pins(usize),
     Edges(usize),
     /// The text ends before this line.
@@ -194,9 +203,14 @@ pub enum Form {
     Nothing,
 }
 
-/// The keys of a job text, in their order; `dirs` may be left out.
-pub const KEYS: [&str; 13] =
-    ["width", "height", "layers", "dirs", "alpha", "beta", "gamma", "east", "north", "nets", "net", "pins", "edges"];
+/// The keys of a job text, in their order.
+pub const KEYS: [&str; 14] = [
+    "width", "height", "layers", "dirs", "alpha", "beta", "gamma", "east", "north", "nets", "net", "low", "pins",
+    "edges",
+];
+
+/// The keys whose lines may be left out.
+pub const OPTIONAL_KEYS: [&str; 2] = ["dirs", "low"];
 
 /// The number of the `dirs` line, where there is one.
 pub const DIRS_LINE: usize = 4;
@@ -219,6 +233,7 @@ impl Kind {
             Kind::North(_) => "north",
             Kind::Nets => "nets",
             Kind::Net(_) => "net",
+            Kind::Low(_) => "low",
             Kind::Pins(_) => "pins",
             Kind::Edges(_) => "edges",
             Kind::End => "",
@@ -236,6 +251,7 @@ impl Kind {
             Kind::North(_) => Form::Numbers(job.grid.north_edges(), 0..=MOST_CAPACITY),
             Kind::Nets => Form::Number(0..=4096),
             Kind::Net(turn) => Form::Turn(turn),
+            Kind::Low(_) => Form::Number(1..=job.layers),
             Kind::Pins(_) => Form::Pins,
             Kind::Edges(_) => Form::Edges,
             Kind::End => Form::Nothing,
@@ -256,7 +272,8 @@ impl Kind {
             Kind::North(layer) if layer < job.layers => Kind::East(layer + 1),
             Kind::North(_) => Kind::Nets,
             Kind::Nets if job.announced > 0 => Kind::Net(1),
-            Kind::Net(turn) => Kind::Pins(turn),
+            Kind::Net(turn) if rest.starts_with(b"low=") => Kind::Low(turn),
+            Kind::Net(turn) | Kind::Low(turn) => Kind::Pins(turn),
             Kind::Pins(turn) => Kind::Edges(turn),
             Kind::Edges(turn) if turn < job.announced => Kind::Net(turn + 1),
             Kind::Nets | Kind::Edges(_) | Kind::End => Kind::End,
@@ -348,6 +365,7 @@ impl Job {
             }
             Kind::Nets => self.announced = number(value)?,
             Kind::Net(_) => self.nets.push(Net::default()),
+            Kind::Low(_) => self.nets.last_mut()?.low = Some(self.low(value)?),
             Kind::Pins(_) => self.nets.last_mut()?.pins = self.pins(value)?,
             Kind::Edges(_) => self.nets.last_mut()?.edges = self.edges(value)?,
             Kind::End => return None,
@@ -357,6 +375,10 @@ impl Job {
 
     fn capacities(&self, value: &[u8], count: usize) -> Option<Vec<usize>> {
         all(entries(value, b','), number).filter(|list| list.len() == count)
+    }
+
+    fn low(&self, value: &[u8]) -> Option<usize> {
+        number(value).filter(|low| (1..=self.layers).contains(low))
     }
 
     fn pins(&self, value: &[u8]) -> Option<Vec<Pin>> {
@@ -386,6 +408,11 @@ impl Job {
     /// The letters of the `dirs` line, from the bottom layer.
     pub fn letters(&self) -> Option<Vec<char>> {
         self.dirs.as_ref().map(|dirs| dirs.iter().map(|way| way.dir()).collect())
+    }
+
+    /// Whether some net has a `low` line: then the printed plan ends with `ldof`.
+    pub fn has_directives(&self) -> bool {
+        self.nets.iter().any(|net| net.low.is_some())
     }
 
     /// The entries on all `edges` lines.
@@ -484,6 +511,41 @@ mod tests {
         assert_eq!(kind("dirs=h,v\ndirs=h,v\n", 5), Some(Kind::Alpha));
         for rest in ["dirs=\n", "dirs=h\n", "dirs=h,v,h\n", "dirs=hv\n", "dirs=h,V\n", "dirs=h,v,\n", "dirs=h, v\n"] {
             assert_eq!(kind(rest, 5), None, "{rest}");
+        }
+    }
+
+    const TIMING: &[u8] = include_bytes!("../../../examples/timing.job");
+
+    #[test]
+    fn wanted_layers_are_read_and_move_the_lines_behind_them() {
+        let job = read(TIMING).unwrap();
+        let lows: Vec<Option<usize>> = job.nets.iter().map(|net| net.low).collect();
+        assert_eq!(lows, [Some(3), Some(3), Some(2), None, Some(2), Some(1)]);
+        assert_eq!(job.nets.iter().map(Net::wants).collect::<Vec<_>>(), [3, 3, 2, 1, 2, 1]);
+        assert!(job.has_directives() && !read(EXAMPLE).unwrap().has_directives());
+        let kinds: Vec<Kind> = (14..=37).map(|line| read_before(TIMING, line).unwrap().1).collect();
+        assert_eq!(kinds[..5], [Kind::Net(1), Kind::Low(1), Kind::Pins(1), Kind::Edges(1), Kind::Net(2)]);
+        assert_eq!(kinds[12..16], [Kind::Net(4), Kind::Pins(4), Kind::Edges(4), Kind::Net(5)]);
+        assert_eq!(kinds[20..], [Kind::Low(6), Kind::Pins(6), Kind::Edges(6), Kind::End]);
+        assert!(kinds[..23].iter().all(|kind| KEYS.contains(&kind.key())));
+        assert!(OPTIONAL_KEYS.iter().all(|key| KEYS.contains(key)));
+    }
+
+    #[test]
+    fn the_line_of_a_wanted_layer_is_there_where_its_key_is() {
+        let head =
+            "width=1\nheight=1\nlayers=2\nalpha=1\nbeta=1\ngamma=0\neast=\nnorth=\neast=\nnorth=\nnets=1\nnet=1\n";
+        let kind = |rest: &str, line| read_before(format!("{head}{rest}").as_bytes(), line).map(|(_, kind)| kind);
+        for rest in ["low=", "low=2", "low=2\n", "low=x\n", "low=0\n"] {
+            assert_eq!(kind(rest, 13), Some(Kind::Low(1)), "{rest}");
+        }
+        for rest in ["", "low", "low\n", "Low=2\n", " low=2\n", "lows=2\n", "pins=0,0,1\n"] {
+            assert_eq!(kind(rest, 13), Some(Kind::Pins(1)), "{rest}");
+        }
+        assert_eq!(kind("low=2\nlow=2\n", 14), Some(Kind::Pins(1)));
+        assert_eq!(kind("pins=0,0,1\nlow=2\n", 14), Some(Kind::Edges(1)));
+        for rest in ["low=\n", "low=0\n", "low=3\n", "low=02\n", "low=1,2\n", "low= 2\n"] {
+            assert_eq!(kind(rest, 14), None, "{rest}");
         }
     }
 

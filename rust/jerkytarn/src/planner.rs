@@ -15,7 +15,10 @@ pub struct Planner {
 #[derive(Debug)]
 pub struct Planned<'a> {
     pub totals: Totals,
-    /// The nets with their scores, in placing order; beyond the job's nets, what stood there before.
+    /// The last line of the printed plan; none where the job has no `low` line.
+    pub ldof: Option<u64>,
+    /// The nets with their lowest wanted layers and scores, in placing order; beyond the job's nets, what stood there
+    /// before.
     pub order: &'a [Entry],
     /// The layers, nets in job order.
     pub answer: &'a [u8],
@@ -43,21 +46,37 @@ impl Planner {
         self.lent
     }
 
-    pub fn plan(&mut self, text: &[u8]) -> Result<Planned<'_>, Refusal> {
-        let totals = layerplan::plan(text, &mut self.work, &mut self.order, &mut self.answer)?;
-        Ok(Planned { totals, order: &self.order, answer: &self.answer })
-    }
-
-    /// The printed plan, with all that `plan` gives.
+    /// The printed plan, with all that the call gives beside it.
     pub fn print(&mut self, text: &[u8]) -> Result<(&[u8], Planned<'_>), Refusal> {
         let Planner { work, order, answer, print, .. } = self;
         let layerplan::Printed { totals, length } = layerplan::print(text, work, order, answer, print)?;
-        Ok((&print[..length], Planned { totals, order, answer }))
+        let printed = &print[..length];
+        Ok((printed, Planned { totals, ldof: ldof(printed), order, answer }))
     }
+}
+
+/// The number on the line `ldof` of a printed plan, which is its last; none where the plan has no such line.
+pub fn ldof(printed: &[u8]) -> Option<u64> {
+    let line = printed.strip_suffix(b"\n")?.rsplit(|byte| *byte == b'\n').next()?;
+    std::str::from_utf8(line.strip_prefix(b"ldof=")?).ok()?.parse().ok()
 }
 
 impl Default for Planner {
     fn default() -> Planner {
         Planner::new()
+    }
+}
+
+#[cfg(test)]
+mod tests {
+    use super::*;
+
+    #[test]
+    fn the_last_line_of_a_plan() {
+        assert_eq!(ldof(include_bytes!("../../../examples/timing.plan")), Some(3));
+        assert_eq!(ldof(include_bytes!("../../../examples/three-tiles.plan")), None);
+        for plan in ["", "\n", "ldof=3", "ldof=\n", "ldof=3\nmax_overflow=0\n", "ldof=x\n"] {
+            assert_eq!(ldof(plan.as_bytes()), None, "{plan:?}");
+        }
     }
 }

@@ -5,7 +5,7 @@ mod table;
 pub use table::{grouped, put_block, table, Style};
 
 use crate::explain::need;
-use crate::figures::{Block, Limits, Overflow, Place};
+use crate::figures::{Block, Limits, Overflow, Place, Wanted};
 use crate::job::{Tile, Way};
 use layerplan::Refusal;
 use serde::Serialize;
@@ -35,6 +35,9 @@ pub struct Report {
     pub limits: Option<Limits>,
     pub layered_overflow: Totals,
     pub vias: u64,
+    /// What the `low` lines ask for; nothing stands where the job has none.
+    #[serde(skip_serializing_if = "Option::is_none")]
+    pub directives: Option<Directives>,
     /// What the library must be lent for the job.
     pub lengths: Lengths,
     pub by_layer: Vec<Layer>,
@@ -87,6 +90,31 @@ pub struct Crowded {
     pub overflow: usize,
 }
 
+/// The layers that the nets' timing wants, and where they have too few tracks.
+#[derive(Serialize, Clone, PartialEq, Eq, Debug)]
+pub struct Directives {
+    /// The last line of the printed plan: the excess of all edges.
+    pub ldof: usize,
+    /// Nets that want a layer above 1.
+    pub nets: usize,
+    /// By lowest wanted layer; a net without a `low` line wants layer 1.
+    pub by_layer: Vec<Wanted>,
+    pub most_excess: Vec<Excess>,
+}
+
+/// An edge with more nets that want some layers than tracks on these.
+#[derive(Serialize, Clone, PartialEq, Eq, Debug)]
+pub struct Excess {
+    pub from: [usize; 2],
+    pub to: [usize; 2],
+    /// Nets on it that want a layer above 1.
+    pub nets: usize,
+    /// Those of them that the plan puts below their lowest wanted layer here.
+    pub below: usize,
+    /// The fewest of them that must go without a track on a layer that they want, whatever the plan.
+    pub excess: usize,
+}
+
 /// The vias between a layer and the one above it.
 #[derive(Serialize, Clone, PartialEq, Eq, Debug)]
 pub struct Level {
@@ -117,7 +145,8 @@ pub struct Net {
 }
 
 impl Report {
-    /// The report of a block, with at most `top` entries in its lists of the most crowded edges and the largest nets.
+    /// The report of a block, with at most `top` entries in its lists of the most crowded edges, of those with most
+    /// excess and of the largest nets.
     pub fn new(name: &str, block: &Block, top: usize) -> Report {
         let job = &block.job;
         Report {
@@ -136,6 +165,7 @@ impl Report {
             limits: block.limits(),
             layered_overflow: totals(block.layered_overflow()),
             vias: block.totals.vias,
+            directives: directives(block, top),
             lengths: lengths(block),
             by_layer: (1..=job.layers).map(|layer| layer_row(block, layer)).collect(),
             most_crowded: block.most_crowded(top).into_iter().map(|at| crowded_row(block, at)).collect(),
@@ -200,9 +230,27 @@ fn part(some: usize, all: usize) -> f64 {
     }
 }
 
+/// The columns and rows of the two tiles that an edge joins.
+fn ends(block: &Block, edge: usize) -> [[usize; 2]; 2] {
+    block.job.grid.ends(edge).map(|Tile { x, y }| [x, y])
+}
+
+fn directives(block: &Block, top: usize) -> Option<Directives> {
+    let directives = block.directives.as_ref()?;
+    let row = |edge: usize| {
+        let ([from, to], at) = (ends(block, edge), &directives.edges[edge]);
+        Excess { from, to, nets: at.nets, below: at.below, excess: at.total() }
+    };
+    Some(Directives {
+        ldof: directives.ldof(),
+        nets: directives.nets(),
+        by_layer: directives.by_layer.clone(),
+        most_excess: directives.most_excess(top).into_iter().map(row).collect(),
+    })
+}
+
 fn crowded_row(block: &Block, at: Place) -> Crowded {
-    let pair = |tile: Tile| [tile.x, tile.y];
-    let [from, to] = block.job.grid.ends(at.edge).map(pair);
+    let [from, to] = ends(block, at.edge);
     let (capacity, used, overflow) = (block.capacity(at), block.used(at), block.overflow(at));
     Crowded { layer: at.layer, from, to, capacity, used, overflow }
 }
@@ -311,10 +359,59 @@ mod tests {
         }
     }
 
+    #[test]
+    fn wanted_layers_in_the_report() {
+        let report = Report::new("timing.job", &crate::figures::timing_example(), 1);
+        let value: serde_json::Value = serde_json::from_str(&report.json()).unwrap();
+        let expected = serde_json::json!({
+            "ldof": 3,
+            "nets": 4,
+            "by_layer": [
+                { "low": 1, "nets": 2, "edges": 2, "below": 0, "excess": 0 },
+                { "low": 2, "nets": 2, "edges": 3, "below": 1, "excess": 1 },
+                { "low": 3, "nets": 2, "edges": 6, "below": 5, "excess": 2 },
+            ],
+            "most_excess": [{ "from": [1, 0], "to": [2, 0], "nets": 4, "below": 2, "excess": 2 }],
+        });
+        assert_eq!(value["directives"], expected);
+        let told = table(&report, Style { unicode: false });
+        for words in [
+            "  vias              5\n  directives        4 nets want a layer above 1, ldof 3\n",
+            "\n  layer directives: ldof 3\n    below: edges that the plan puts below",
+            "\n    low     nets      edges      below     excess\n",
+            "\n      3        2          6          5          2 !\n",
+            "\n  edges with most directive excess\n    from tile    to tile    nets  below  excess\n",
+            "\n    1,0       -> 2,0           4      2       2 !\n",
+        ] {
+            assert!(told.contains(words), "no {words:?} in\n{told}");
+        }
+    }
+
+    #[test]
+    fn wanted_layers_that_all_have_tracks() {
+        let text = include_str!("../../../examples/three-tiles.job").replace("net=1\n", "net=1\nlow=2\n");
+        let block = crate::figures::plan(&mut Planner::new(), text.as_bytes()).unwrap().unwrap();
+        let told = table(&Report::new("a", &block, 10), Style { unicode: false });
+        assert!(told.contains("  directives        1 net wants a layer above 1, ldof 0\n"), "{told}");
+        assert!(
+            told.contains("most directive excess\n    none: each net can have a track on a layer that it wants"),
+            "{told}"
+        );
+    }
+
+    /// The directives of the largest numbers that a block can have.
+    fn largest_directives() -> Directives {
+        let (nets, entries) = (layerplan::NETS_MOST, layerplan::TEXT_MOST / 6);
+        let row = |low| Wanted { low, nets, edges: entries, below: entries, excess: entries };
+        let edge = Excess { from: [62, 63], to: [63, 63], nets, below: nets, excess: nets };
+        Directives { ldof: entries, nets, by_layer: (1..=8).map(row).collect(), most_excess: vec![edge] }
+    }
+
     /// The report of the example with directions, with numbers as large as those of a block can be.
     fn largest() -> Report {
         let mut report = Report::new("directed.job", &crate::figures::directed_example(), 10);
         let (edges, nets, entries) = (2 * 63 * 64, layerplan::NETS_MOST, layerplan::TEXT_MOST / 6);
+        report.directives = Some(largest_directives());
         for row in &mut report.by_layer {
             (row.tracks, row.used, row.overflow) = (edges * MOST_CAPACITY, entries, entries);
             (row.full, row.overflowed) = (edges, edges);
@@ -344,7 +441,15 @@ mod tests {
         // words of the head and of a row that stand above each other
         let layers = [(0, 0), (1, 1), (2, 2), (3, 3), (6, 5), (7, 6), (8, 7), (9, 8)];
         let crowded = [(0, 0), (5, 4), (6, 5), (7, 6)];
-        for (head, pairs) in [("  layer  runs", &layers[..]), ("    layer  from", &crowded), ("  level", &[(1, 3)])] {
+        let wanted = [(0, 0), (1, 1), (2, 2), (3, 3), (4, 4)];
+        let excess = [(4, 3), (5, 4), (6, 5)];
+        for (head, pairs) in [
+            ("  layer  runs", &layers[..]),
+            ("    layer  from", &crowded),
+            ("    low ", &wanted),
+            ("    from tile", &excess),
+            ("  level", &[(1, 3)]),
+        ] {
             let (head, rows) = rows(head);
             assert!(!rows.is_empty());
             for row in rows {
@@ -355,10 +460,13 @@ mod tests {
     }
 
     #[test]
-    fn nothing_of_directions_without_their_line() {
+    fn nothing_of_optional_lines_without_them() {
         let (told, json) = (table(&example(), Style { unicode: false }), example().json());
-        assert!(!told.contains("runs") && !told.contains("limit of a layer"), "{told}");
-        assert!(!["dirs", "limits", "runs"].iter().any(|name| json.contains(&format!("\"{name}\""))), "{json}");
+        for words in ["runs", "limit of a layer", "directive", "ldof", "excess"] {
+            assert!(!told.contains(words), "{told}");
+        }
+        let names = ["dirs", "limits", "runs", "directives"];
+        assert!(!names.iter().any(|name| json.contains(&format!("\"{name}\""))), "{json}");
     }
 
     #[test]

@@ -262,6 +262,95 @@ fn an_edge_without_a_layer_comes_after_8_and_before_11() {
 }
 
 #[test]
+fn wanted_layers_are_planned() {
+    let plan = fs::read(TIMING_PLAN).unwrap();
+    assert_eq!(run(["plan", TIMING]).stdout, plan);
+    // without the lines the plan is the same but for its last line
+    let job = fs::read_to_string(TIMING).unwrap();
+    let without: String = job.split_inclusive('\n').filter(|line| !line.starts_with("low=")).collect();
+    assert_eq!(text(&run_with(&["plan", "-"], without.as_bytes()).stdout) + "ldof=3\n", text(&plan));
+    // one line is enough for the last line, also `low=1`
+    let one = without.replace("net=6\n", "net=6\nlow=1\n");
+    assert!(text(&run_with(&["plan", "-"], one.as_bytes()).stdout).ends_with("\nmax_overflow=0\nldof=0\n"));
+}
+
+#[test]
+fn wanted_layers_are_told() {
+    let told = text(&run(["check", TIMING]).stdout);
+    for line in [
+        "  vias              5\n  directives        4 nets want a layer above 1, ldof 3\n",
+        "  storage to lend   work 336, order 6, answer 11, print 662\n",
+    ] {
+        assert!(told.contains(line), "no {line:?} in\n{told}");
+    }
+    let table = text(&run(["report", TIMING]).stdout);
+    for line in ["\n  layer directives: ldof 3\n", "\n      3        2          6          5          2 !\n"] {
+        assert!(table.contains(line), "no {line:?} in\n{table}");
+    }
+    let rows = |top: &str| {
+        let table = text(&run(["report", TIMING, "--top", top]).stdout);
+        let list = table.split("edges with most directive excess\n").nth(1).unwrap();
+        list.lines().skip(1).take_while(|line| !line.is_empty()).count()
+    };
+    assert_eq!([rows("1"), rows("9")], [1, 2]);
+    let json: serde_json::Value = serde_json::from_slice(&run(["report", "--json", TIMING]).stdout).unwrap();
+    assert_eq!((&json["directives"]["ldof"], &json["directives"]["nets"]), (&3.into(), &4.into()));
+    assert_eq!(json["directives"]["by_layer"][2]["below"], 5);
+    let excess = serde_json::json!({ "from": [1, 0], "to": [2, 0], "nets": 4, "below": 2, "excess": 2 });
+    assert_eq!(json["directives"]["most_excess"][0], excess);
+    let folder = Folder::new();
+    let picture = folder.path("a.svg");
+    assert_eq!(status(&run(["draw", TIMING, "-o", picture.to_str().unwrap()])), 0);
+    let drawn = fs::read_to_string(picture).unwrap();
+    assert!(drawn.contains("; ldof 3<") && drawn.contains(">too few tracks here and above for the nets"));
+    // nothing of it where no net has the line
+    for arguments in [&["check", EXAMPLE][..], &["report", EXAMPLE], &["report", "--json", EXAMPLE]] {
+        let told = text(&run(arguments).stdout);
+        assert!(!told.contains("directive") && !told.contains("ldof"), "{told}");
+    }
+}
+
+#[test]
+fn a_batch_tells_ldof_of_jobs_that_have_it() {
+    let folder = Folder::new();
+    let out = folder.path("out");
+    let arguments = ["batch", EXAMPLE, TIMING, "-o", out.to_str().unwrap()];
+    let told = text(&run(arguments).stdout);
+    assert!(told.contains("three-tiles.job: accepted, vias 2, overflow 0, maximum 0\n"), "{told}");
+    assert!(told.contains("timing.job: accepted, vias 5, overflow 0, maximum 0, ldof 3\n"), "{told}");
+    assert!(told.ends_with("vias 7, overflow 0, maximum 0, ldof 3\n"), "{told}");
+    let told = text(&run(arguments.into_iter().chain(["--resume"])).stdout);
+    assert!(told.contains("timing.job: accepted, vias 5, overflow 0, maximum 0, ldof 3 (kept)\n"), "{told}");
+    assert!(told.ends_with("2 kept from before; vias 7, overflow 0, maximum 0, ldof 3\n"), "{told}");
+}
+
+/// That the example with wanted layers, with a line put in the place of another, is refused so and told in these words.
+fn expect_timing(number: u32, line: u32, new: &str, words: &[&str]) {
+    let job = with_line(&fs::read_to_string(TIMING).unwrap(), line as usize, new);
+    let output = run_with(&["check", "-"], job.as_bytes());
+    assert_eq!(text(&output.stdout), format!("refused={number},{line}\n"), "{new:?}");
+    let told = text(&output.stderr);
+    for word in words {
+        assert!(told.contains(word), "no {word:?} in\n{told}");
+    }
+}
+
+#[test]
+fn refusals_of_jobs_with_wanted_layers() {
+    expect_timing(2, 15, "low=three\n", &["`three` is not a number", "`low=` of net 1 and a number from 1 to 3"]);
+    expect_timing(3, 15, "low=0\n", &["`low` is 0", "a number from 1 to 3"]);
+    expect_timing(3, 15, "low=4\n", &["`low` is 4", "take the line out if net 1 may be on any layer"]);
+    expect_timing(2, 16, "low=3\n", &["a net has one such line"]);
+    expect_timing(2, 28, "low=3\n", &["put it before the `pins` line"]);
+    expect_timing(2, 15, "Low=3\n", &["begin the line with `low=`"]);
+    // lines behind it have moved: 10 is before it, 11 behind all
+    let job = fs::read(TIMING).unwrap();
+    let refused = |lend: &str| text(&run_with(&["plan", "-", "--lend", lend], &job).stdout);
+    assert_eq!([refused("order=5"), refused("answer=10")], ["refused=10,13\n", "refused=11,36\n"]);
+    assert_eq!([refused("print=661"), refused("work=335")], ["refused=11,36\n", "refused=9,3\n"]);
+}
+
+#[test]
 fn draw_writes_a_page_or_a_picture() {
     let folder = Folder::new();
     for (name, start) in [("a.html", "<!DOCTYPE html>"), ("a.svg", "<svg ")] {

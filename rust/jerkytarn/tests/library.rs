@@ -2,7 +2,11 @@
 
 mod common;
 use common::*;
-use second::gen::{draw, Damage, Kind, Known, DAMAGES, KINDS};
+use second::gen::{draw, Damage, Kind, DAMAGES, KINDS};
+use second::job::{Lengths, Refusal};
+
+/// More than any job needs: the command lends what its job asks for.
+const ENOUGH: Lengths = Lengths { work: 1 << 24, order: 1 << 12, answer: 1 << 24, print: Some(1 << 26) };
 
 #[test]
 fn plan_is_the_librarys_on_500_drawn_jobs() {
@@ -18,14 +22,15 @@ fn plan_is_the_librarys_on_500_drawn_jobs() {
     for (seed, kind) in jobs {
         let whole = kind.map(|_| Damage::None); // named shapes are whole, the others as they come
         let drawn = draw(seed, kind, whole);
+        let outcome = drawn.outcome(ENOUGH);
         let job = drawn.text;
         let output = run([std::ffi::OsStr::new("plan"), folder.file("a.job", &job).as_os_str()]);
         expect_library(&output, &job, &format!("seed {seed}, {kind:?}"));
         // and as who drew the text knows it to be
-        match drawn.known {
-            Known::Job => assert_eq!(status(&output), 0, "seed {seed}"),
-            Known::Refused(number, line) => assert_eq!(text(&output.stdout), format!("refused={number},{line}\n")),
-            Known::Open => {}
+        match outcome {
+            Some(None) => assert_eq!(status(&output), 0, "seed {seed}"),
+            Some(Some(Refusal { number, line })) => assert_eq!(text(&output.stdout), format!("refused={number},{line}\n")),
+            None => {}
         }
         if status(&output) == 0 {
             accepted += 1;
@@ -64,7 +69,72 @@ fn damaged_texts_through_every_command() {
         for seed in 0..6 {
             let job = drawn(7000 + 100 * place as u64 + seed, None, Some(*damage));
             every_command(&folder, &job, &format!("{name}, seed {seed}"));
+            if seed < 2 {
+                every_command(&folder, &with_lows(&job), &format!("{name} with wanted layers, seed {seed}"));
+            }
         }
+    }
+}
+
+#[test]
+fn wanted_layers_in_drawn_jobs_through_every_command() {
+    let folder = Folder::new();
+    let (mut accepted, mut excess) = (0, 0);
+    for (place, (_, kind)) in KINDS.iter().enumerate() {
+        if matches!(kind, Kind::Full | Kind::Largest) {
+            continue; // no room in the text for more lines
+        }
+        for seed in 0..3 {
+            let plain = drawn(4000 + 10 * place as u64 + seed, Some(*kind), Some(Damage::None));
+            let job = with_lows(&plain);
+            every_command(&folder, &job, &format!("{kind:?}, seed {seed}"));
+            let (Ok(plan), Ok(before)) = (library(&job), library(&plain)) else { continue };
+            accepted += 1;
+            excess += usize::from(ldof(&plan).is_some_and(|number| number > 0));
+            // the lines change nothing but the last line
+            if job.len() > plain.len() && ldof(&before).is_none() {
+                assert!(plan.starts_with(&before) && plan[before.len()..].starts_with(b"ldof="), "seed {seed}");
+            }
+        }
+    }
+    assert!(accepted > 20 && excess > 5, "only {accepted} accepted, {excess} with excess");
+}
+
+/// What may stand in the place of a `low` line, and what is then found there.
+const DAMAGED_LOWS: [(&str, &str); 11] = [
+    ("low=", "a number is missing"),
+    ("low=0", "`low` is 0"),
+    ("low=9", "`low` is 9"),
+    ("low=01", "a zero before other digits"),
+    ("low=x", "`x` is not a number"),
+    ("low= 1", "spaces around the number"),
+    ("low=100000", "more than five digits"),
+    ("Low=1", "the key `Low`"),
+    ("lows=1", "the key `lows`"),
+    ("low", "the key `low`"),
+    ("low=1\nlow=1", "the key `low`"),
+];
+
+/// The line of a refused text, and what is found there.
+fn told_of(job: &str) -> (usize, String) {
+    let mut planner = jerkytarn::planner::Planner::new();
+    let refusal = planner.print(job.as_bytes()).unwrap_err();
+    let told = jerkytarn::explain::message("a.job", job.as_bytes(), refusal, planner.lent());
+    let found = told.lines().find(|line| line.starts_with("  found ")).unwrap_or_else(|| panic!("{told}"));
+    (refusal.line as usize, found.to_string())
+}
+
+#[test]
+fn damaged_lines_of_wanted_layers_are_told() {
+    for (seed, (new, words)) in DAMAGED_LOWS.iter().enumerate() {
+        let job = text(&with_lows(&drawn(300 + seed as u64, Some(Kind::Congested), Some(Damage::None))));
+        let start = job.find("\nlow=").unwrap() + 1;
+        let end = start + job[start..].find('\n').unwrap();
+        let line = job[..start].lines().count() + new.lines().count();
+        let (at, found) = told_of(&format!("{}{new}{}", &job[..start], &job[end..]));
+        assert!(at == line && found.contains(words), "{new:?}: {at}, {found}");
+        let (at, found) = told_of(&format!("{}{new}", &job[..start]));
+        assert!(at == line && found.contains("not ended by a line feed"), "{new:?}, cut: {at}, {found}");
     }
 }
 

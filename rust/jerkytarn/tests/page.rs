@@ -298,6 +298,79 @@ fn a_page_without_directions_says_nothing_of_them() {
     assert_eq!(interaction(&fs::read(EXAMPLE).unwrap(), steps), "as expected");
 }
 
+/// The page of the example with wanted layers: nets 1 and 2 want layer 3, nets 3 and 5 layer 2 or 3.
+const WANTED: &str = r#"
+  const facts = (part) => Object.fromEntries([...document.querySelectorAll(`${part} dd`)].map((fact) => [fact.dataset.fact, fact.textContent]));
+  const bad = (part) => [...document.querySelectorAll(`${part} .bad`)].map((fact) => fact.dataset.fact);
+  expect('shown', [...document.querySelectorAll('.directives')].map((each) => each.hidden), [false, false, false]);
+  expect('figures', byId('figures').textContent.endsWith(' · ldof 3'), true);
+  expect('words of the layers', [1, 2, 3].map((layer) => maps[layer - 1].words().includes('▲')), [false, true, true]);
+  expect('label', maps[2].canvas.getAttribute('aria-label').includes('2 with directive excess'), true);
+  expect('wanted', facts('#wanted'), { 'low 2: 2 nets': '1 of 3 edges below', 'low 3: 2 nets': '5 of 6 edges below', ldof: '3' });
+  const rows = [...document.querySelectorAll('#excess button')];
+  expect('edges with excess', rows.map((row) => row.textContent), ['1,0 → 2,0excess 2 ▲', '0,0 → 1,0excess 1 ▲']);
+  rows[1].click();
+  expect('held', [at(), state.held], [[3, 0, 0, 'e'], true]);
+  expect('facts of the edge', [facts('#place')['want a higher layer'], facts('#place')['directive excess']], ['0', '1 (layer 3)']);
+  choose({ at: { layer: 1, x: 1, y: 0, way: 'e' } });
+  expect('facts of layer 1', [facts('#place')['want a higher layer'], facts('#place')['directive excess']], ['2', '2 (layers 2, 3)']);
+  expect('bad', bad('#place'), ['want a higher layer', 'directive excess']);
+  chooseNet(1);
+  expect('net 1', [facts('#net')['lowest wanted layer'], facts('#net')['edges below it'], bad('#net')], ['3', '3', ['edges below it']]);
+  chooseNet(4);
+  expect('net 4', [facts('#net')['lowest wanted layer'], facts('#net')['edges below it'], bad('#net')], ['1', '0', []]);
+  expect('heads', document.querySelector('.list-head').lastChild.textContent, 'low');
+  byId('sort').value = 'low';
+  byId('sort').dispatchEvent(new Event('change'));
+  expect('highest first', list.shown, [1, 2, 3, 5, 4, 6]);
+  expect('cells', [...document.querySelectorAll('.net-row')].map((row) => row.lastChild.textContent), ['3', '3', '2', '2', '1', '1']);
+  expect('label of a row', byId('row-0').getAttribute('aria-label'), 'net 1, 4 vias, 4 edges, wants layer 3 or higher');
+  const box = maps[2].canvas.getBoundingClientRect();
+  const [left, top] = maps[2].middle(1.5, 0);
+  maps[2].canvas.dispatchEvent(new PointerEvent('pointermove', { clientX: box.left + left, clientY: box.top + top, bubbles: true }));
+  expect('tip', byId('tip').textContent, 'Layer 3, 1,0 → 2,0: 1 of 1 used, excess 1 ▲');
+  const wide = [...document.querySelectorAll('body, aside, .places, #place, #wanted, figure')].filter((each) => each.scrollWidth > each.clientWidth);
+  expect('nothing is wider than its place', wide.map((each) => each.id || each.tagName), []);
+"#;
+
+#[test]
+fn the_page_knows_wanted_layers() {
+    assert_eq!(interaction(&fs::read(TIMING).unwrap(), WANTED), "as expected");
+}
+
+#[test]
+fn a_page_without_wanted_layers_says_nothing_of_them() {
+    let steps = "expect('hidden', [...document.querySelectorAll('.directives')].map((each) => each.hidden), [true, true, true]);
+        expect('figures', byId('figures').textContent.includes('ldof'), false);
+        expect('head', document.querySelector('.list-head').lastChild.textContent, 'turn');
+        expect('sort', [...byId('sort').options].map((option) => option.value), ['net', 'vias', 'edges', 'turn']);
+        choose({ at: { layer: 1, x: 0, y: 0, way: 'e' }, held: true });
+        chooseNet(1);
+        expect('facts', [...document.querySelectorAll('dd')].filter((fact) => /layer$|below|excess/.test(fact.dataset.fact)).length, 0);";
+    assert_eq!(interaction(&fs::read(EXAMPLE).unwrap(), steps), "as expected");
+}
+
+#[test]
+fn the_page_has_the_librarys_ldof() {
+    for seed in [1, 5] {
+        let job = with_lows(&drawn(seed, Some(Kind::Congested), Some(Damage::None)));
+        let number = ldof(&library(&job).unwrap()).unwrap();
+        let steps = format!(
+            "expect('ldof', directives.ldof, {number});
+            let [sum, marked] = [0, 0];
+            for (let edge = 0; edge < EDGES; edge += 1) sum += excess(edge);
+            expect('sum', sum, {number});
+            for (let layer = 1; layer <= K; layer += 1) for (let edge = 0; edge < EDGES; edge += 1) marked += excessAt(layer, edge);
+            expect('by layer', marked, {number});
+            for (const row of document.querySelectorAll('#excess button')) {{
+              row.click();
+              expect('a place of the maps', carries(state.at.layer, state.at.way), true);
+            }}"
+        );
+        assert_eq!(interaction(&job, &steps), "as expected", "seed {seed}");
+    }
+}
+
 /// The page of a row of 64 tiles with eight layers: 65,535 tracks on each edge but the last, which all nets but one use.
 const MANY_TRACKS: &str = r#"
   const facts = () => Object.fromEntries([...document.querySelectorAll('#place dd')].map((fact) => [fact.dataset.fact, fact.textContent]));

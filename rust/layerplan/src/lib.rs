@@ -1,9 +1,9 @@
 //! A verified layer assignment for flat wiring plans.
 //!
 //! In: a flat wiring plan as a text, every net a tree over a grid of tiles, with track counts for each layer, from 0 to
-//! 65,535, and, if the layers have one, the direction in which each runs. Out: the layer of every edge of every net, with
-//! as few vias as each net can have at its turn and exactly the overflow that cannot be avoided; or one numbered
-//! [`Refusal`] with its line.
+//! 65,535, and, if the layers have one, the direction in which each runs; a net may name the lowest layer that its timing
+//! wants. Out: the layer of every edge of every net, with as few vias as each net can have at its turn and exactly the
+//! overflow that cannot be avoided; or one numbered [`Refusal`] with its line.
 //!
 //! The work is done by a static library whose functions are proved to do what the definitions say, for every text and
 //! all lengths of the lent slices. This crate only lends it safe slices. There is no heap behind it: the caller lends
@@ -22,7 +22,7 @@
 //! let totals = layerplan::plan(text, &mut work, &mut order, &mut answer)?;
 //! assert_eq!(answer, [1]); // the one track is on layer 1, so each pin on layer 2 takes a via
 //! assert_eq!(totals, layerplan::Totals { vias: 2, overflow: 0, maximum: 0 });
-//! assert_eq!(order, [layerplan::Entry { net: 1, score: 3000 }]);
+//! assert_eq!(order, [layerplan::Entry { net: 1, low: 1, score: 3000 }]);
 //! # Ok::<(), layerplan::Refusal>(())
 //! ```
 
@@ -139,7 +139,7 @@ fn told(r: sys::LayerplanResult) -> Result<Totals, Refusal> {
 /// Plan: reads the job text and finds the layer of every edge of every net.
 ///
 /// - `work`: working numbers. What they held is of no account; after every call, refused or not, all are 0.
-/// - `order`: the order list, the nets with their scores in placing order.
+/// - `order`: the order list, the nets with their lowest wanted layers and their scores, in placing order.
 /// - `answer`: the layers, nets in job order, each net's layers in the order of its `edges` line.
 ///
 /// What lies beyond the needed part of `order` and `answer` stays as it was. A refused job leaves both as they were.
@@ -163,6 +163,9 @@ pub fn plan(text: &[u8], work: &mut [u32], order: &mut [Entry], answer: &mut [u8
 
 /// Print: does the same as [`plan`], and writes the plan as a text to the start of `out`, [`Printed::length`] bytes of
 /// ASCII. What lies beyond stays as it was; a refused job leaves all of `out` as it was.
+///
+/// In a job that has a `low` line the text ends with the line `ldof=N`: summed over all edges, the fewest nets with `low`
+/// above 1 that must go without a track on a layer that they want, over all ways to hand out the tracks of the edge.
 pub fn print(
     text: &[u8],
     work: &mut [u32],

@@ -13,11 +13,16 @@ pub struct LayerplanResult {
     pub length: u64,
 }
 
-/// An entry of the order list: the number of a net, from 1, and its score.
+/// An entry of the order list.
 #[repr(C)]
 #[derive(Clone, Copy, PartialEq, Eq, Debug, Default)]
 pub struct Entry {
+    /// The number of a net, from 1.
     pub net: u32,
+    /// The lowest layer that the net's timing wants, from 1: the number on its `low` line, and 1 without the line. Layers,
+    /// scores and order do not depend on it.
+    pub low: u32,
+    /// The net's score, by which the nets are placed.
     pub score: u64,
 }
 

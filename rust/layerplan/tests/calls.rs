@@ -6,7 +6,7 @@ const JOB: &[u8] = include_bytes!("../../../examples/three-tiles.job");
 const PLAN: &[u8] = include_bytes!("../../../examples/three-tiles.plan");
 const TOTALS: Totals = Totals { vias: 2, overflow: 0, maximum: 0 };
 
-const FILLED: Entry = Entry { net: 77, score: 88 };
+const FILLED: Entry = Entry { net: 77, low: 66, score: 88 };
 
 /// Slices to lend, all filled with something.
 struct Lent {
@@ -60,7 +60,7 @@ fn the_example() {
         let mut lent = Lent::new(lengths);
         assert_eq!(lent.print(JOB), Ok(Printed { totals: TOTALS, length: PLAN.len() }));
         assert_eq!(lent.work, vec![0; lengths.work]);
-        let order = [Entry { net: 2, score: 3000 }, Entry { net: 1, score: 2500 }];
+        let order = [Entry { net: 2, low: 1, score: 3000 }, Entry { net: 1, low: 1, score: 2500 }];
         assert_eq!(lent.order, [&order[..], &vec![FILLED; more]].concat());
         assert_eq!(lent.answer, [&[2, 1, 1][..], &vec![99; more]].concat());
         assert_eq!(lent.out[..PLAN.len()], *PLAN);
@@ -128,11 +128,53 @@ fn refusals() {
     let across = "width=2\nheight=1\nlayers=2\ndirs=v,v\nalpha=1\nbeta=1\ngamma=0\neast=0\nnorth=\neast=0\nnorth=\n\
         nets=1\nnet=1\npins=0,0,1\nedges=0,0,e\n";
     assert_eq!(refused(across.as_bytes()), Refusal { number: 13, line: 15 });
+    assert_eq!(with("net=2", "net=2\nlow=01"), (2, 16));
+    assert_eq!(with("net=2", "net=2\nlow=0"), (3, 16));
+    assert_eq!(with("net=2", "net=2\nlow=3"), (3, 16));
+    assert_eq!(with("net=1", "net=1\nlow=2\nlow=2"), (2, 14));
     let words = |number: u32| Refusal { number, line: 3 }.to_string();
     assert_eq!(words(9), "refused=9,3: fewer working numbers than needed");
     assert_eq!(words(11), "refused=11,3: answer list or print buffer too short");
     assert_eq!(words(12), "refused=12,3: a nonzero capacity on a layer that runs the other way");
     assert_eq!(words(13), "refused=13,3: an edge whose direction has no layer");
+}
+
+/// The example with these lines `low` of its two nets: its order list and its printed text.
+fn with_lows(lows: [&str; 2]) -> (Vec<Entry>, String) {
+    let text = std::str::from_utf8(JOB).unwrap();
+    let text = text.replacen("net=1\n", &format!("net=1\n{}", lows[0]), 1);
+    let text = text.replacen("net=2\n", &format!("net=2\n{}", lows[1]), 1);
+    let mut lent = Lent::new(Lengths::needed(3, 1, 2, 2, 3));
+    assert_eq!(lent.plan(text.as_bytes()), Ok(TOTALS));
+    let (order, answer) = (lent.order.clone(), lent.answer.clone());
+    let printed = lent.print(text.as_bytes()).unwrap();
+    assert_eq!((&lent.order, &lent.answer, printed.totals), (&order, &answer, TOTALS));
+    assert_eq!(answer, [2, 1, 1]);
+    (order, String::from_utf8(lent.out[..printed.length].to_vec()).unwrap())
+}
+
+#[test]
+fn lowest_wanted_layers() {
+    // the edge that both nets use has one track on layer 2: two nets that want it are one too many
+    let plain = std::str::from_utf8(PLAN).unwrap();
+    for (lines, lows, ldof) in [
+        (["", ""], [1, 1], None),
+        (["low=1\n", ""], [1, 1], Some(0)),
+        (["low=2\n", ""], [2, 1], Some(0)),
+        (["", "low=2\n"], [1, 2], Some(0)),
+        (["low=2\n", "low=2\n"], [2, 2], Some(1)),
+    ] {
+        let (order, printed) = with_lows(lines);
+        assert_eq!(order, [Entry { net: 2, low: lows[1], score: 3000 }, Entry { net: 1, low: lows[0], score: 2500 }]);
+        assert_eq!(printed, ldof.map_or(plain.to_string(), |ldof| format!("{plain}ldof={ldof}\n")));
+    }
+}
+
+#[test]
+fn an_entry_has_no_bytes_between_its_fields() {
+    use std::mem::{offset_of, size_of};
+    let offsets = [offset_of!(Entry, net), offset_of!(Entry, low), offset_of!(Entry, score)];
+    assert_eq!((offsets, size_of::<Entry>()), ([0, 4, 8], 16));
 }
 
 #[test]

@@ -16,11 +16,11 @@ pub fn returned(r: LayerplanResult) -> Returned {
 
 /// Lends the second planner's entries as the library's.
 fn with_entries<T>(order: &mut [Entry], call: impl FnOnce(&mut [layerplan::Entry]) -> T) -> T {
-    let mut entries: Vec<layerplan::Entry> =
-        order.iter().map(|entry| layerplan::Entry { net: entry.net, score: entry.score }).collect();
+    let lent = |&Entry { net, low, score }: &Entry| layerplan::Entry { net, low, score };
+    let mut entries: Vec<layerplan::Entry> = order.iter().map(lent).collect();
     let r = call(&mut entries);
-    for (entry, layerplan::Entry { net, score }) in order.iter_mut().zip(entries) {
-        *entry = Entry { net, score };
+    for (entry, layerplan::Entry { net, low, score }) in order.iter_mut().zip(entries) {
+        *entry = Entry { net, low, score };
     }
     r
 }

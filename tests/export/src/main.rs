@@ -171,10 +171,12 @@ mod tests {
         let expected = answer(text, lent);
         held(&Library, text, lent, &expected, 1).unwrap();
         held(&Wrapped, text, lent, &expected, 1).unwrap();
-        let faults: [Faulty; 4] = [
+        let faults: [Faulty; 6] = [
             Faulty(|work, _, _| work[109] = 1),
             Faulty(|_, order, _| order[1].score += 1),
             Faulty(|_, order, _| order[2].net ^= 1),
+            Faulty(|_, order, _| order[0].low ^= 1),
+            Faulty(|_, order, _| order[2].low ^= 1),
             Faulty(|_, _, returned| returned.length += 1),
         ];
         for fault in &faults {

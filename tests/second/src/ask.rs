@@ -3,7 +3,7 @@
 //! A question is the line `WORK ORDER ANSWER PRINT BYTES`, which has the lent lengths (PRINT is `-` for the call Plan)
 //! and the length of a text, and then that text. Its answer is one line of JSON. Of a refused job it has `number` and
 //! `line`. Of an accepted one it has
-//! - `order`: the order list, each entry as a list of its numbers;
+//! - `order`: the order list, each entry as a list of its numbers: net, lowest wanted layer, score;
 //! - `plan`: each net's layers in the order of its `edges` line, nets in job order;
 //! - `vias`, `total`, `maximum`: what a call returns;
 //! - `text`: the print, which Plan does not write;
@@ -56,7 +56,8 @@ fn lengths(line: &str) -> Option<(Lengths, usize)> {
 fn accepted(job: &Job) -> Result<String, String> {
     let plan = plan(job);
     let brute = checked(job, &plan)?.is_some();
-    let order: Vec<[u64; 2]> = plan.order.iter().map(|entry| [entry.net.into(), entry.score]).collect();
+    let entries = plan.order.iter().map(|entry| [entry.net.into(), entry.low.into(), entry.score]);
+    let order: Vec<[u64; 3]> = entries.collect();
     let steps = job.nets.iter().map(|net| walk(job.grid, net));
     let walks: Vec<Vec<usize>> = steps.map(|steps| steps.iter().filter_map(|step| step.edge).collect()).collect();
     let text = print(&plan);

@@ -1,5 +1,6 @@
 //! Demand 3 and the tie rule in their own words, for tiny jobs: all layerings of all nets are looked at one by one.
 //! Nothing here uses the planner; what it takes is the job, the order list, the answer list and the returned numbers.
+//! For the layer directives, all ways to hand out the tracks of an edge are looked at one by one.
 //!
 //! Of all legal choices with the fewest vias, the first in walk order is in fact the lowest on each single edge: take of
 //! two such choices the lower layer on each edge, and in another choice the higher one. Both are legal, and as highest
@@ -161,7 +162,9 @@ pub fn check(job: &Job, order: &[Entry], answer: &[u8], returned: &Returned) -> 
         let goes_before =
             |other: &usize| scores[*other] > scores[net] || (scores[*other] == scores[net] && *other < net);
         let turn = (0..nets).filter(goes_before).count();
-        claim(order[turn] == Entry { net: net as u32 + 1, score: scores[net] }, "the order is that of the scores")?;
+        let low = job.nets[net].low.map_or(1, u32::from);
+        let entry = Entry { net: net as u32 + 1, low, score: scores[net] };
+        claim(order[turn] == entry, "the order is that of the scores, each net with its lowest wanted layer")?;
     }
     let by_turn: Vec<usize> = order.iter().map(|entry| entry.net as usize - 1).collect();
 
@@ -247,4 +250,63 @@ pub fn check(job: &Job, order: &[Entry], answer: &[u8], returned: &Returned) -> 
         claim(lowest, "of the cheapest choices, the lowest on each edge")?;
     }
     Ok(count)
+}
+
+/// All ways to hand out the tracks of an edge.
+struct HandOut<'a> {
+    /// By layer from 0: the tracks that are not yet handed out.
+    left: Vec<u64>,
+    /// The lowest wanted layers of the nets with `low` above 1 on the edge.
+    wanted: &'a [u8],
+    /// The fewest nets that went without so far, and how many ways were looked at.
+    fewest: usize,
+    ways: u64,
+}
+
+impl HandOut<'_> {
+    /// All ways to hand out what is left to the nets from this one on: each gets nothing, or a track on its lowest wanted
+    /// layer or a higher one. `without` nets before it got nothing.
+    fn go(&mut self, net: usize, without: usize) {
+        let Some(low) = self.wanted.get(net) else {
+            self.fewest = self.fewest.min(without);
+            self.ways += 1;
+            return;
+        };
+        self.go(net + 1, without + 1);
+        for layer in usize::from(*low) - 1..self.left.len() {
+            if self.left[layer] > 0 {
+                self.left[layer] -= 1;
+                self.go(net + 1, without);
+                self.left[layer] += 1;
+            }
+        }
+    }
+}
+
+/// Checks the layer directives of a job: on each edge the excess is the fewest nets with `low` above 1 that go without a
+/// track on a layer that they want, over all ways to hand out tracks; and `ldof`, in a job with a `low` line, is their
+/// sum. Edges with more than `most` ways are passed over. Returns how many ways were looked at, on edges with such nets.
+pub fn directives(job: &Job, excess: &[u64], ldof: Option<u64>, most: u64) -> Result<u64, String> {
+    let mut ways = 0;
+    let high: Vec<&Net> = job.nets.iter().filter(|net| net.low > Some(1)).collect();
+    for (edge, excess) in excess.iter().enumerate() {
+        let wanted: Vec<u8> = high.iter().filter(|net| net.edges.contains(&edge)).filter_map(|net| net.low).collect();
+        let choices = wanted.iter().map(|low| (job.layers as u64 + 2) - u64::from(*low));
+        if choices.fold(1, u64::saturating_mul) > most {
+            continue;
+        }
+        let left = job.capacity.iter().map(|layer| layer[edge]).collect();
+        let mut all = HandOut { left, wanted: &wanted, fewest: wanted.len(), ways: 0 };
+        all.go(0, 0);
+        ways += if wanted.is_empty() { 0 } else { all.ways };
+        if all.fewest as u64 != *excess {
+            return Err(format!("edge {edge}: excess {excess}, but {} nets must go without", all.fewest));
+        }
+    }
+    let lines = job.nets.iter().filter(|net| net.low.is_some()).count();
+    let sum = if lines > 0 { Some(excess.iter().sum()) } else { None };
+    if ldof != sum {
+        return Err(format!("ldof {ldof:?} where the edges have {sum:?}"));
+    }
+    Ok(ways)
 }

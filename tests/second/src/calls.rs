@@ -113,9 +113,10 @@ impl Buffers {
     /// Buffers of these lengths that hold something or other.
     pub fn filled(lent: Lengths, seed: u64) -> Buffers {
         let mut rng = Rng::new(seed);
+        let entry = |rng: &mut Rng| Entry { net: rng.word() as u32, low: rng.word() as u32, score: rng.word() };
         Buffers {
             work: (0..lent.work).map(|_| rng.word() as u32).collect(),
-            order: (0..lent.order).map(|_| Entry { net: rng.word() as u32, score: rng.word() }).collect(),
+            order: (0..lent.order).map(|_| entry(&mut rng)).collect(),
             answer: (0..lent.answer).map(|_| rng.word() as u8).collect(),
             print: (0..lent.print.unwrap_or(0)).map(|_| rng.word() as u8).collect(),
         }

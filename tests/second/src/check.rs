@@ -1,7 +1,8 @@
 //! What can be checked of a plan of any size, in other words and with another method than the planner's: the overflow
 //! numbers, the order, that each layer was legal at its net's turn, and for each tile of each net, by spans of layers
 //! instead of combinations, that no choice has fewer vias and that none with as few comes before it in walk order.
-//! The walks are compared as such: plans alone would not show a wrong walk (see `brute`).
+//! The walks are compared as such: plans alone would not show a wrong walk (see `brute`). What the layer directives leave
+//! without a track is found by a hand-out from the lowest layer up, and by a bound that no hand-out goes below.
 
 use crate::job::{Direction, Job, Net};
 use crate::plan::{vias, walk, Plan};
@@ -184,6 +185,40 @@ fn largest(numbers: impl Iterator<Item = u64>) -> u64 {
     numbers.max().unwrap_or(0)
 }
 
+/// How many nets a hand-out leaves without a track: layer by layer upwards, the tracks of a layer go to nets that want it
+/// or wanted a lower one and have none yet, as many as there are. `nets[l - 1]` want layer l and up.
+fn handed_out(tracks: &[u64], nets: &[u64]) -> u64 {
+    nets.iter().zip(tracks).fold(0, |waiting: u64, (more, tracks)| (waiting + more).saturating_sub(*tracks))
+}
+
+/// How many nets any hand-out leaves without a track, at the least: for each layer, those that want it or a higher one
+/// find no track below it.
+fn without_at_least(tracks: &[u64], nets: &[u64]) -> u64 {
+    let missing = |from: usize| {
+        let (nets, tracks) = (nets[from..].iter().sum::<u64>(), tracks[from..].iter().sum());
+        nets.saturating_sub(tracks)
+    };
+    largest((0..tracks.len()).map(missing))
+}
+
+/// The nets with `low` above 1 that must go without a track on a layer that they want, summed over all edges: on each
+/// edge some hand-out leaves so many, and none leaves fewer.
+fn must_go_without(job: &Job) -> Result<u64, String> {
+    // by edge, then layer
+    let mut nets = vec![vec![0; job.layers]; job.grid.edges()];
+    for net in job.nets.iter().filter(|net| net.low.is_some_and(|layer| layer > 1)) {
+        net.edges.iter().for_each(|edge| nets[*edge][usize::from(net.low.unwrap()) - 1] += 1u64);
+    }
+    let mut sum = 0;
+    for (edge, nets) in nets.iter().enumerate() {
+        let tracks: Vec<u64> = job.capacity.iter().map(|layer| layer[edge]).collect();
+        let (some, least) = (handed_out(&tracks, nets), without_at_least(&tracks, nets));
+        claim(some == least, || format!("edge {edge}: {some} nets go without, where {least} have to"))?;
+        sum += least;
+    }
+    Ok(sum)
+}
+
 /// All that is checked of a plan of any size.
 pub fn check(job: &Job, plan: &Plan) -> Result<(), String> {
     let edges = job.grid.edges();
@@ -215,6 +250,8 @@ pub fn check(job: &Job, plan: &Plan) -> Result<(), String> {
             + 1000 * job.beta * pin_tiles.len() as u64
             + over(1000 * job.gamma * sum(&demand), sum(&tracks));
         claim(entry.score == score, || format!("net {} scores {score}, not {}", entry.net, entry.score))?;
+        let low = net.low.map_or(1, u32::from);
+        claim(entry.low == low, || format!("net {} wants layer {low}, not {}", entry.net, entry.low))?;
         if let Some(before) = turn.checked_sub(1).map(|turn| plan.order[turn]) {
             let in_order = before.score > score || (before.score == score && before.net < entry.net);
             claim(in_order, || format!("net {} before net {}", before.net, entry.net))?;
@@ -242,5 +279,9 @@ pub fn check(job: &Job, plan: &Plan) -> Result<(), String> {
     }
     claim(plan.total_overflow == metal.flat.iter().sum::<u64>(), || "total overflow".to_string())?;
     claim(plan.max_overflow == largest(metal.limit.iter().copied()), || "maximum overflow".to_string())?;
-    claim(plan.total_vias == plan.vias.iter().sum::<u64>(), || "total vias".to_string())
+    claim(plan.total_vias == plan.vias.iter().sum::<u64>(), || "total vias".to_string())?;
+
+    let without = must_go_without(job)?;
+    let ldof = if job.nets.iter().any(|net| net.low.is_some()) { Some(without) } else { None };
+    claim(plan.ldof == ldof, || format!("ldof {:?} where {ldof:?} go without", plan.ldof))
 }

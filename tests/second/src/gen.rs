@@ -187,6 +187,37 @@ fn stack(rng: &mut Rng, pins: &mut Vec<Pin>, layers: usize) {
     }
 }
 
+/// The `low` lines of a job: so many of ten nets have one, with a layer from the least to the most.
+struct Lows {
+    part: usize,
+    least: usize,
+    most: usize,
+}
+
+impl Lows {
+    /// Few nets, half of them or all; layers that are all 1, all K, all the same, near K, or any. In some jobs no net.
+    fn draw(rng: &mut Rng, layers: usize) -> Lows {
+        let part = if rng.chance(1, 4) { 0 } else { rng.pick(&[1, 5, 10]) };
+        let one = rng.range(2, layers);
+        let (least, most) = rng.pick(&[
+            (1, 1),
+            (layers, layers),
+            (one, one),
+            (layers - 1, layers),
+            (1, layers),
+            (2, layers),
+            (2, layers),
+        ]);
+        Lows { part, least, most }
+    }
+
+    /// The `low` line of a net, if it has one.
+    fn line(&self, rng: &mut Rng) -> Option<u8> {
+        let layer = rng.range(self.least, self.most) as u8;
+        rng.chance(self.part, 10).then_some(layer)
+    }
+}
+
 /// A net of the job with at most this many edges; no edge goes a way that no layer runs.
 fn net(rng: &mut Rng, job: &Job, edges: usize, growth: Growth) -> Net {
     let Job { grid, layers, .. } = *job;
@@ -194,7 +225,7 @@ fn net(rng: &mut Rng, job: &Job, edges: usize, growth: Growth) -> Net {
     let ways: Vec<usize> = (0..4).filter(|way| job.has_layer(direction(*way))).collect();
     let mut edges = tree(rng, grid, &ways, edges, growth);
     rng.shuffle(&mut edges);
-    let mut net = Net { pins: Vec::new(), edges };
+    let mut net = Net { low: None, pins: Vec::new(), edges };
     let tiles: Vec<usize> = net.tiles(grid).into_iter().collect();
     let tiles = if tiles.is_empty() { vec![rng.below(grid.tiles())] } else { tiles };
     let most = if rng.chance(1, 3) { tiles.len() + 3 } else { 4.min(tiles.len() + 2) };
@@ -278,7 +309,7 @@ fn all_tiles(grid: Grid) -> Vec<usize> {
 }
 
 /// A job whose sums are at their bounds: one track count on all layers of all edges, and nets over all tiles, as many as
-/// the text holds, at most 4,096.
+/// the text holds, at most 4,096. With `low` lines, their excess is at its bound too.
 fn bounds(rng: &mut Rng) -> Job {
     let (width, height, layers, tracks) = match rng.below(3) {
         // c(e), and C of a net
@@ -292,11 +323,12 @@ fn bounds(rng: &mut Rng) -> Job {
     let capacity = vec![vec![tracks; grid.edges()]; layers];
     let (alpha, beta, gamma) = (rng.pick(&[0, 255]), rng.pick(&[0, 255]), 255);
     let mut job = Job { grid, layers, dirs: None, alpha, beta, gamma, capacity, nets: Vec::new() };
+    let lows = Lows::draw(rng, layers);
     let mut length = write(&job).len() + "4096".len();
     while job.nets.len() < 4096 {
         let mut edges = all_tiles(grid);
         rng.shuffle(&mut edges);
-        let net = Net { pins: pins(rng, &[0], layers, 1), edges };
+        let net = Net { low: lows.line(rng), pins: pins(rng, &[0], layers, 1), edges };
         let mut lines = Vec::new();
         write_net(&mut lines, grid, job.nets.len() + 1, &net);
         length += lines.len();
@@ -308,7 +340,7 @@ fn bounds(rng: &mut Rng) -> Job {
     job
 }
 
-/// A valid job of this kind; about half of them have a `dirs` line, but for those at the bounds.
+/// A valid job of this kind; about half of them have a `dirs` line, but for those at the bounds, and about half `low` lines.
 pub fn job(rng: &mut Rng, kind: Kind) -> Job {
     if kind == Kind::Bounds {
         return bounds(rng);
@@ -319,6 +351,7 @@ pub fn job(rng: &mut Rng, kind: Kind) -> Job {
         _ => rng.range(low, high),
     };
     let crosses = kind == Kind::Tiny && rng.chance(1, 4); // tiny nets with three-branch tiles
+    let crowded = kind == Kind::Tiny && !crosses && rng.chance(1, 4); // several tiny nets on one edge
     let (low, high) = match kind {
         Kind::Tiny if crosses => (3, 4),
         Kind::Tiny => (1, 4),
@@ -338,6 +371,9 @@ pub fn job(rng: &mut Rng, kind: Kind) -> Job {
             2 => height = 1,
             _ => (width, height) = (side(rng, 1, 3), side(rng, 1, 3)),
         }
+    }
+    if crowded {
+        (width, height) = rng.pick(&[(2, 1), (1, 2), (3, 1)]);
     }
     let grid = Grid { width, height };
     let layers = if kind == Kind::Largest { 8 } else { side(rng, 2, 8) };
@@ -375,6 +411,7 @@ pub fn job(rng: &mut Rng, kind: Kind) -> Job {
     close(&mut job);
     let choices = (0..grid.edges()).map(|edge| job.layers_of(edge).len()).max().unwrap_or(0).max(2); // for one edge
     let nets = match kind {
+        Kind::Tiny if crowded => rng.range(3, 9),
         Kind::Tiny => rng.range(0, 6),
         Kind::Congested => rng.range(1, 300),
         Kind::Plenty => rng.range(1, 100),
@@ -386,6 +423,7 @@ pub fn job(rng: &mut Rng, kind: Kind) -> Job {
     };
     let mut left = if full { TEXT_LIMIT - write(&job).len() - 3 } else { TEXT_LIMIT };
     let short = kind == Kind::Full && rng.chance(1, 2); // many short nets fill the text, else fewer long ones
+    let lows = Lows::draw(rng, layers);
     for _ in 0..nets {
         // 16 bytes for each edge and its pin, and as many for the net itself, are enough
         let room = left / 20;
@@ -397,7 +435,7 @@ pub fn job(rng: &mut Rng, kind: Kind) -> Job {
                 // the layerings of the job stay few
                 let left = (15.0 / (choices as f64).log2()) as usize - job.entries();
                 let most = left.min(6);
-                if crosses || rng.chance(1, 3) {
+                if crosses || crowded || rng.chance(1, 3) {
                     most
                 } else {
                     rng.range(0, most)
@@ -420,7 +458,8 @@ pub fn job(rng: &mut Rng, kind: Kind) -> Job {
             Kind::Full if !short && grid.tiles() < room => rng.pick(&[Growth::Any, Growth::Comb, Growth::Fishbone]),
             _ => rng.pick(&[Growth::Snake, Growth::Bush, Growth::Any, Growth::Comb]),
         };
-        let net = net(rng, &job, most, growth);
+        let mut net = net(rng, &job, most, growth);
+        net.low = lows.line(rng);
         let mut lines = Vec::new();
         write_net(&mut lines, grid, job.nets.len() + 1, &net);
         left -= lines.len();
@@ -452,6 +491,9 @@ fn write_list(text: &mut Vec<u8>, key: &str, entries: &[String], separator: &str
 
 fn write_net(text: &mut Vec<u8>, grid: Grid, number: usize, net: &Net) {
     text.extend(format!("net={number}\n").bytes());
+    if let Some(layer) = net.low {
+        text.extend(format!("low={layer}\n").bytes());
+    }
     let pin = |pin: &Pin| format!("{},{},{}", pin.tile % grid.width, pin.tile / grid.width, pin.layer);
     write_list(text, "pins", &net.pins.iter().map(pin).collect::<Vec<_>>(), ";");
     let edge = |edge: &usize| {
@@ -530,6 +572,8 @@ pub enum Damage {
     Off,
     /// The `dirs` line of another form, twice, left out, or in another place.
     Dirs,
+    /// A `low` line of another form, out of range, twice, left out, or in another place.
+    Low,
     /// A track on a layer that runs the other way.
     Closed,
     /// All layers run one way, and some edge the other.
@@ -540,7 +584,7 @@ pub enum Damage {
     Random,
 }
 
-pub const DAMAGES: [(&str, Damage); 22] = [
+pub const DAMAGES: [(&str, Damage); 23] = [
     ("none", Damage::None),
     ("cut", Damage::Cut),
     ("flip", Damage::Flip),
@@ -559,6 +603,7 @@ pub const DAMAGES: [(&str, Damage); 22] = [
     ("ring", Damage::Ring),
     ("off", Damage::Off),
     ("dirs", Damage::Dirs),
+    ("low", Damage::Low),
     ("closed", Damage::Closed),
     ("no-layer", Damage::NoLayer),
     ("long", Damage::Long),
@@ -568,8 +613,9 @@ pub const DAMAGES: [(&str, Damage); 22] = [
 /// What is known of a text before it is read.
 #[derive(Clone, Copy, PartialEq, Eq, Debug)]
 pub enum Known {
-    /// It is the undamaged text of the job.
-    Job,
+    /// With long enough buffers it is accepted: it is the text of the job, or of the job with another `low` line, or one
+    /// more or less.
+    Accepted,
     /// With long enough buffers it gets this refusal.
     Refused(u32, u32),
     /// Nothing.
@@ -585,9 +631,10 @@ fn damaged(rng: &mut Rng, job: &Job, damage: Damage) -> (Vec<u8>, Known) {
     let last = job.last_line();
     let grid = job.grid;
     let dirs_line = line == 3 && job.dirs.is_some();
+    let low_line = lines[line].starts_with(b"low=");
 
     match damage {
-        Damage::None => return (text, Known::Job),
+        Damage::None => return (text, Known::Accepted),
         Damage::Cut => {
             text.truncate(at);
             let whole = text.iter().filter(|byte| **byte == 10).count();
@@ -596,13 +643,13 @@ fn damaged(rng: &mut Rng, job: &Job, damage: Damage) -> (Vec<u8>, Known) {
         Damage::Flip => {
             text[at] = match rng.below(3) {
                 0 => text[at] ^ (1 << rng.below(8)),
-                1 => rng.pick(b"0123456789,;=enhv\n"),
+                1 => rng.pick(b"0123456789,;=enhvlow\n"),
                 _ => rng.word() as u8,
             };
             return (text, Known::Open);
         }
         Damage::Insert => {
-            let byte = if rng.chance(1, 2) { rng.pick(b"0123456789,;=enhv\n") } else { rng.word() as u8 };
+            let byte = if rng.chance(1, 2) { rng.pick(b"0123456789,;=enhvlow\n") } else { rng.word() as u8 };
             text.insert(at, byte);
             return (text, Known::Open);
         }
@@ -633,14 +680,18 @@ fn damaged(rng: &mut Rng, job: &Job, damage: Damage) -> (Vec<u8>, Known) {
         }
         Damage::Drop => {
             lines.remove(line);
-            let known = if dirs_line { Known::Open } else { Known::Refused(2, line as u32 + 1) };
+            let known = match (dirs_line, low_line) {
+                (true, _) => Known::Open,
+                (_, true) => Known::Accepted,
+                _ => Known::Refused(2, line as u32 + 1),
+            };
             return (lines.concat(), known);
         }
         Damage::Swap => {
             if line + 1 < lines.len() {
                 lines.swap(line, line + 1);
-                // `alpha` may stand where `dirs` stood, but not `dirs` behind it
-                let wrong = if dirs_line { 5 } else { line as u32 + 1 };
+                // `alpha` may stand where `dirs` stood, but not `dirs` behind it; so with `pins` and `low`
+                let wrong = line as u32 + 1 + u32::from(dirs_line || low_line);
                 return (lines.concat(), Known::Refused(2, wrong));
             }
         }
@@ -655,7 +706,7 @@ fn damaged(rng: &mut Rng, job: &Job, damage: Damage) -> (Vec<u8>, Known) {
             let nets_line = job.nets_line();
             if nets != job.nets.len() {
                 lines[nets_line as usize - 1] = format!("nets={nets}\n").into_bytes();
-                let after = if nets < job.nets.len() { nets_line + 3 * nets as u32 + 1 } else { last + 1 };
+                let after = if nets < job.nets.len() { job.net_line(nets) } else { last + 1 };
                 let known = if nets > 4096 { Known::Refused(3, nets_line) } else { Known::Refused(2, after) };
                 return (lines.concat(), known);
             }
@@ -676,6 +727,7 @@ fn damaged(rng: &mut Rng, job: &Job, damage: Damage) -> (Vec<u8>, Known) {
             }
         }
         Damage::Dirs => return damaged_dirs(rng, job, lines),
+        Damage::Low => return damaged_low(rng, job, lines),
         Damage::Closed => {
             let closed = closed(job);
             if !closed.is_empty() {
@@ -693,14 +745,13 @@ fn damaged(rng: &mut Rng, job: &Job, damage: Damage) -> (Vec<u8>, Known) {
                 job.dirs = Some(vec![other(direction); job.layers]);
                 close(&mut job);
                 let first = job.nets.iter().position(|net| net.edges.iter().any(|e| grid.direction(*e) == direction));
-                let edges_line = job.nets_line() + 3 * (first.unwrap() as u32 + 1);
-                return (write(&job), Known::Refused(13, edges_line));
+                return (write(&job), Known::Refused(13, job.edges_line(first.unwrap())));
             }
         }
         _ => {
             // the damages of one net
             if job.nets.is_empty() {
-                return (text, Known::Job);
+                return (text, Known::Accepted);
             }
             let place = rng.below(job.nets.len());
             let mut net = job.nets[place].clone();
@@ -711,7 +762,8 @@ fn damaged(rng: &mut Rng, job: &Job, damage: Damage) -> (Vec<u8>, Known) {
                 (0..grid.edges()).filter(|edge| ends_inside(edge) == inside && !net.edges.contains(edge)).collect()
             };
             let mut number = place + 1;
-            let first_line = job.nets_line() + 3 * place as u32 + 1;
+            let first_line = job.net_line(place);
+            let (pins_line, edges_line) = (job.pins_line(place), job.edges_line(place));
             let known = match damage {
                 Damage::Turn => {
                     number = rng.pick(&[place, place + 2, 0, 99999]);
@@ -721,42 +773,42 @@ fn damaged(rng: &mut Rng, job: &Job, damage: Damage) -> (Vec<u8>, Known) {
                     let pin = rng.pick(&net.pins);
                     let at = rng.below(net.pins.len() + 1);
                     net.pins.insert(at, pin);
-                    Known::Refused(5, first_line + 1)
+                    Known::Refused(5, pins_line)
                 }
                 Damage::EdgeTwice if !net.edges.is_empty() => {
                     let edge = rng.pick(&net.edges);
                     let at = rng.below(net.edges.len() + 1);
                     net.edges.insert(at, edge);
-                    Known::Refused(6, first_line + 2)
+                    Known::Refused(6, edges_line)
                 }
                 Damage::Ring if !edges_with(2).is_empty() => {
                     let edge = rng.pick(&edges_with(2));
                     let at = rng.below(net.edges.len() + 1);
                     net.edges.insert(at, edge);
-                    Known::Refused(7, first_line + 2)
+                    Known::Refused(7, edges_line)
                 }
                 Damage::Off if !edges_with(0).is_empty() && rng.chance(1, 2) => {
                     let edge = rng.pick(&edges_with(0));
                     let at = rng.below(net.edges.len() + 1);
                     net.edges.insert(at, edge);
-                    Known::Refused(8, first_line + 2)
+                    Known::Refused(8, edges_line)
                 }
                 Damage::Off if !outside.is_empty() => {
                     let pin = Pin { tile: rng.pick(&outside), layer: 1 };
                     let at = rng.below(net.pins.len() + 1);
                     net.pins.insert(at, pin);
-                    Known::Refused(8, first_line + 2)
+                    Known::Refused(8, edges_line)
                 }
-                _ => return (text, Known::Job),
+                _ => return (text, Known::Accepted),
             };
             let mut changed = Vec::new();
             write_net(&mut changed, grid, number, &net);
             let at = first_line as usize - 1;
-            lines.splice(at..at + 3, [changed]);
+            lines.splice(at..at + net.lines(), [changed]);
             return (lines.concat(), known);
         }
     }
-    (text, Known::Job)
+    (text, Known::Accepted)
 }
 
 /// The lines of the job with another `dirs` line, or with one in the wrong place; and what is known of the text.
@@ -803,6 +855,98 @@ fn damaged_dirs(rng: &mut Rng, job: &Job, mut lines: Vec<Vec<u8>>) -> (Vec<u8>, 
     (lines.concat(), known)
 }
 
+/// The places of the nets with a `low` line.
+fn with_low_line(job: &Job) -> Vec<usize> {
+    (0..job.nets.len()).filter(|place| job.nets[*place].low.is_some()).collect()
+}
+
+/// Lines of the wrong form in the place of a `low` line; V stands for its value. Among them numbers with leading zeros, and
+/// with more digits than a number has: 1 above what 16, 32 and 64 bits hold, and others.
+#[rustfmt::skip]
+const WRONG_LOWS: [&str; 40] = [
+    "low=", "low=x", "low=h", "low=one", "low=-1", "low=+1", "low=1.0", "low=0x1", "low==V", "low=00", "low=01", "low=0V",
+    "low=0000V", "low=00000000001", "low=065537", "low=100000", "low=4294967297", "low=18446744073709551617", "low=V,V",
+    "low=V;", "low=V,", "low=,V", "low= V", "low=V ", "low=V\r", "low=V\0", "lowV", "low V", "low:V", "low", "", "Low=V",
+    "LOW=V", "lo=V", "lows=V", "llow=V", " low=V", "low =V", "pins=V", "net=V",
+];
+
+/// Another line in the place of a `low` line with this value, and the refusal on it, 0 where there is none.
+fn other_low(rng: &mut Rng, layers: usize, value: u8) -> (String, u32) {
+    match rng.below(12) {
+        0 => (String::new(), 0),
+        1 => (format!("low={}\n", rng.range(1, layers)), 0),
+        2 | 3 => ("low=0\n".to_string(), 3),
+        4..=6 => (format!("low={}\n", layers + 1), 3),
+        7 => (format!("low={}\n", rng.pick(&[9, 10, 255, 256, 257, 65_535, 65_536, 65_537, 99_999])), 3),
+        _ => (rng.pick(&WRONG_LOWS).replace('V', &value.to_string()) + "\n", 2),
+    }
+}
+
+/// The lines of the job with one `low` line of another form, out of range, left out, twice or in another place; or with one
+/// more somewhere. And what is known of the text.
+fn damaged_low(rng: &mut Rng, job: &Job, mut lines: Vec<Vec<u8>>) -> (Vec<u8>, Known) {
+    let with = with_low_line(job);
+    if with.is_empty() {
+        return one_more_low(rng, job, lines);
+    }
+    let place = rng.pick(&with);
+    let low_line = job.net_line(place) + 1;
+    match rng.below(10) {
+        0 => one_more_low(rng, job, lines),
+        1 => moved_low(rng, low_line, lines),
+        2 => cut_low(rng, low_line, lines),
+        _ => {
+            let (other, number) = other_low(rng, job.layers, job.nets[place].lowest());
+            lines[low_line as usize - 1] = other.into_bytes();
+            let known = if number == 0 { Known::Accepted } else { Known::Refused(number, low_line) };
+            (lines.concat(), known)
+        }
+    }
+}
+
+/// The `low` line of this number moved: before `net`, behind `pins`, behind `edges`; or twice.
+fn moved_low(rng: &mut Rng, low_line: u32, mut lines: Vec<Vec<u8>>) -> (Vec<u8>, Known) {
+    let at = low_line as usize - 1;
+    let line = lines.remove(at);
+    let (to, wrong) =
+        rng.pick(&[(at - 1, low_line - 1), (at + 1, low_line + 1), (at + 2, low_line + 2), (at, low_line + 1)]);
+    lines.insert(to, line.clone());
+    if to == at {
+        lines.insert(at, line);
+    }
+    (lines.concat(), Known::Refused(2, wrong))
+}
+
+/// The `low` line of this number without its byte 10: the text ends there, or goes on at once.
+fn cut_low(rng: &mut Rng, low_line: u32, mut lines: Vec<Vec<u8>>) -> (Vec<u8>, Known) {
+    let at = low_line as usize - 1;
+    lines[at].pop();
+    if rng.chance(2, 3) {
+        lines.truncate(at + 1);
+        let bytes = rng.below(lines[at].len() + 1);
+        if rng.chance(1, 2) {
+            lines[at].truncate(bytes);
+        }
+    }
+    (lines.concat(), Known::Refused(2, low_line))
+}
+
+/// The lines of the job with one `low` line more, somewhere.
+fn one_more_low(rng: &mut Rng, job: &Job, mut lines: Vec<Vec<u8>>) -> (Vec<u8>, Known) {
+    let any = rng.below(lines.len() + 1);
+    let behind_net = if job.nets.is_empty() { any } else { job.net_line(rng.below(job.nets.len())) as usize };
+    let line = if rng.chance(1, 2) { any } else { behind_net };
+    let right = line > 0 && lines[line - 1].starts_with(b"net=");
+    let twice = right && lines[line].starts_with(b"low=");
+    lines.insert(line, format!("low={}\n", rng.range(1, job.layers)).into_bytes());
+    let known = match (right, twice) {
+        (true, false) => Known::Accepted,
+        (true, true) => Known::Refused(2, line as u32 + 2),
+        _ => Known::Refused(2, line as u32 + 1),
+    };
+    (lines.concat(), known)
+}
+
 /// Where the numbers of a line begin and end.
 fn numbers(line: &[u8]) -> Vec<(usize, usize)> {
     let digit = |place: usize| line.get(place).is_some_and(u8::is_ascii_digit);
@@ -814,7 +958,7 @@ fn numbers(line: &[u8]) -> Vec<(usize, usize)> {
 fn beyond_limit(rng: &mut Rng, job: &Job) -> Option<(u32, String)> {
     let Grid { width, height } = job.grid;
     let layers = job.layers;
-    match rng.below(10) {
+    match rng.below(11) {
         0 => Some((1, format!("width={}\n", rng.pick(&[0, 65, 99999])))),
         1 => Some((2, format!("height={}\n", rng.pick(&[0, 65])))),
         2 => Some((3, format!("layers={}\n", rng.pick(&[0, 1, 9])))),
@@ -836,20 +980,31 @@ fn beyond_limit(rng: &mut Rng, job: &Job) -> Option<(u32, String)> {
             list[place] = rng.pick(&[MOST_CAPACITY + 1, 99_999]).to_string();
             Some((job.capacity_line(layer, direction), format!("{key}={}\n", list.join(","))))
         }
+        7 => {
+            let with = with_low_line(job);
+            if with.is_empty() {
+                return None;
+            }
+            Some((job.net_line(rng.pick(&with)) + 1, format!("low={}\n", rng.pick(&[0, layers + 1]))))
+        }
         _ if job.nets.is_empty() => None,
         choice => {
             let place = rng.below(job.nets.len());
             let mut lines = Vec::new();
             write_net(&mut lines, job.grid, place + 1, &job.nets[place]);
             let lines = String::from_utf8(lines).unwrap();
-            let line = if choice == 7 { 1 } else { 2 };
-            let mut entries: Vec<&str> = lines.lines().nth(line).unwrap().split(['=', ';']).collect();
+            let (key, line) = match choice {
+                8 => ("pins=", job.pins_line(place)),
+                _ => ("edges=", job.edges_line(place)),
+            };
+            let value = lines.lines().find(|line| line.starts_with(key)).unwrap();
+            let mut entries: Vec<&str> = value.split(['=', ';']).collect();
             let (x, y) = (rng.below(width), rng.below(height));
             let entry = match (choice, rng.below(4)) {
-                (7, 0) => format!("{width},{y},1"),
-                (7, 1) => format!("{x},{height},1"),
-                (7, 2) => format!("{x},{y},0"),
-                (7, _) => format!("{x},{y},{}", layers + 1),
+                (8, 0) => format!("{width},{y},1"),
+                (8, 1) => format!("{x},{height},1"),
+                (8, 2) => format!("{x},{y},0"),
+                (8, _) => format!("{x},{y},{}", layers + 1),
                 (_, 0) => format!("{},{y},e", width - 1),
                 (_, 1) => format!("{x},{},n", height - 1),
                 (_, 2) => format!("{width},{y},n"),
@@ -858,7 +1013,7 @@ fn beyond_limit(rng: &mut Rng, job: &Job) -> Option<(u32, String)> {
             entries.retain(|entry| !entry.is_empty());
             entries.insert(rng.range(1, entries.len()), &entry);
             let value = entries[1..].join(";");
-            Some((job.nets_line() + 3 * place as u32 + 1 + line as u32, format!("{}={value}\n", entries[0])))
+            Some((line, format!("{}={value}\n", entries[0])))
         }
     }
 }
@@ -922,7 +1077,7 @@ impl Drawn {
     pub fn outcome(&self, lent: Lengths) -> Option<Option<Refusal>> {
         let (number, line) = match self.known {
             Known::Open => return None,
-            Known::Job => (0, u32::MAX),
+            Known::Accepted => (0, u32::MAX),
             Known::Refused(number, line) => (number, line),
         };
         if self.text.len() > TEXT_LIMIT {
@@ -946,7 +1101,8 @@ impl Drawn {
         }
         let print_short = lent.print.is_some_and(|length| length < need.print.unwrap());
         if lent.answer < need.answer || print_short {
-            return refused(11, self.job.last_line());
+            let last_line = self.text.iter().filter(|byte| **byte == 10).count();
+            return refused(11, last_line as u32);
         }
         Some(None)
     }

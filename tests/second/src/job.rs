@@ -112,14 +112,25 @@ pub struct Pin {
     pub layer: u8,
 }
 
-/// A net: its pins and its edges, both in the order of their lines.
+/// A net: the layer of its `low` line, where it has one; its pins and its edges, both in the order of their lines.
 #[derive(Clone, PartialEq, Eq, Debug, Default)]
 pub struct Net {
+    pub low: Option<u8>,
     pub pins: Vec<Pin>,
     pub edges: Vec<usize>,
 }
 
 impl Net {
+    /// The net's lowest wanted layer: 1 without a `low` line.
+    pub fn lowest(&self) -> u8 {
+        self.low.unwrap_or(1)
+    }
+
+    /// How many lines the net has.
+    pub fn lines(&self) -> usize {
+        3 + usize::from(self.low.is_some())
+    }
+
     /// The net's tiles: those that its edges join; without edges, the tile of its pins.
     pub fn tiles(&self, grid: Grid) -> BTreeSet<usize> {
         let ends = self.edges.iter().flat_map(|edge| grid.ends(*edge));
@@ -177,7 +188,27 @@ impl Job {
     }
 
     pub fn last_line(&self) -> u32 {
-        self.nets_line() + 3 * self.nets.len() as u32
+        self.net_line(self.nets.len()) - 1
+    }
+
+    /// The number of the `net` line of the net at this place, from 0; behind the last net, of the line after the last.
+    pub fn net_line(&self, place: usize) -> u32 {
+        let before: usize = self.nets[..place].iter().map(Net::lines).sum();
+        self.nets_line() + 1 + before as u32
+    }
+
+    /// The numbers of the `pins` and of the `edges` line of the net at this place.
+    pub fn pins_line(&self, place: usize) -> u32 {
+        self.edges_line(place) - 1
+    }
+
+    pub fn edges_line(&self, place: usize) -> u32 {
+        self.net_line(place + 1) - 1
+    }
+
+    /// Whether some net has a `low` line.
+    pub fn has_low_line(&self) -> bool {
+        self.nets.iter().any(|net| net.low.is_some())
     }
 
     /// The lengths that Print needs.
@@ -236,9 +267,10 @@ pub fn read(text: &[u8], lent: Lengths) -> Result<Job, Refusal> {
         if reader.well_formed(number(value))? != turn {
             return Err(reader.refusal(4));
         }
+        let low = reader.low(layers)?;
         let pins = reader.pins(grid, layers)?;
         let edges = reader.edges(grid, dirs.as_deref(), &pins)?;
-        nets.push(Net { pins, edges });
+        nets.push(Net { low, pins, edges });
     }
     if !reader.rest.is_empty() {
         reader.line += 1;
@@ -361,6 +393,14 @@ impl<'a> Reader<'a> {
             return Err(self.refusal(12));
         }
         Ok(list)
+    }
+
+    /// The `low` line of a net, which is there where the text goes on with its key: a layer.
+    fn low(&mut self, layers: usize) -> Result<Option<u8>, Refusal> {
+        if !self.rest.starts_with(b"low=") {
+            return Ok(None);
+        }
+        self.number("low", 1..=layers).map(|layer| Some(layer as u8))
     }
 
     /// A `pins` line: 2, then 3, then 5.

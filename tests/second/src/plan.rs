@@ -1,14 +1,16 @@
-//! The plan: overflow on the flat plan, scores and order, each net's walk, its layers, and the print.
+//! The plan: overflow on the flat plan, scores and order, each net's walk, its layers, what the layer directives lack, and
+//! the print.
 
 use crate::job::{Direction, Grid, Job, Net};
 use std::cmp::Reverse;
 use std::collections::{BTreeMap, BTreeSet, VecDeque};
 
-/// An entry of the order list: a net number and its score.
+/// An entry of the order list: a net number, the net's lowest wanted layer, and its score.
 #[repr(C)]
 #[derive(Clone, Copy, PartialEq, Eq, Debug, Default)]
 pub struct Entry {
     pub net: u32,
+    pub low: u32,
     pub score: u64,
 }
 
@@ -77,7 +79,11 @@ pub fn score(job: &Job, flat: &Flat, net: &Net) -> u64 {
 
 /// The order list: higher scores first; of equal scores, the lower net number first.
 pub fn order(job: &Job, flat: &Flat) -> Vec<Entry> {
-    let entry = |(place, net): (usize, &Net)| Entry { net: place as u32 + 1, score: score(job, flat, net) };
+    let entry = |(place, net): (usize, &Net)| Entry {
+        net: place as u32 + 1,
+        low: net.lowest().into(),
+        score: score(job, flat, net),
+    };
     let mut order: Vec<Entry> = job.nets.iter().enumerate().map(entry).collect();
     order.sort_by_key(|entry| (Reverse(entry.score), entry.net));
     order
@@ -261,6 +267,30 @@ pub struct Plan {
     pub total_vias: u64,
     pub total_overflow: u64,
     pub max_overflow: u64,
+    /// In a job with a `low` line, the excess of all edges together.
+    pub ldof: Option<u64>,
+}
+
+/// By edge: the excess of virtual demand over virtual capacity, summed over all layers t above 1. The virtual capacity
+/// at t is that of the layers t and up; the virtual demand at t is the number of nets that use the edge with `low` equal
+/// to t, and the smaller of virtual demand and virtual capacity at t + 1; both are 0 above K.
+pub fn excess(job: &Job) -> Vec<u64> {
+    let mut nets = vec![vec![0u64; job.grid.edges()]; job.layers];
+    for net in &job.nets {
+        for edge in &net.edges {
+            nets[usize::from(net.lowest()) - 1][*edge] += 1;
+        }
+    }
+    let of_edge = |edge: usize| {
+        let (mut capacity, mut demand, mut sum) = (0, 0, 0);
+        for layer in (2..=job.layers).rev() {
+            demand = nets[layer - 1][edge] + u64::min(demand, capacity);
+            capacity += job.capacity[layer - 1][edge];
+            sum += demand.saturating_sub(capacity);
+        }
+        sum
+    };
+    (0..job.grid.edges()).map(of_edge).collect()
 }
 
 pub fn plan(job: &Job) -> Plan {
@@ -291,6 +321,7 @@ pub fn plan(job: &Job) -> Plan {
         total_vias: net_vias.iter().sum(),
         total_overflow: all().map(|(l, e)| overflow(l, e)).sum(),
         max_overflow: all().map(|(l, e)| overflow(l, e)).max().unwrap_or(0),
+        ldof: job.has_low_line().then(|| excess(job).iter().sum()),
         order,
         layers,
         vias: net_vias,
@@ -309,5 +340,6 @@ pub fn print(plan: &Plan) -> String {
         text += &format!("net={}\nvias={}\nlayers={}\n", place + 1, plan.vias[place], listed(layers.iter()));
     }
     text += &format!("total_vias={}\ntotal_overflow={}\n", plan.total_vias, plan.total_overflow);
-    text + &format!("max_overflow={}\n", plan.max_overflow)
+    text += &format!("max_overflow={}\n", plan.max_overflow);
+    text + &plan.ldof.map_or(String::new(), |ldof| format!("ldof={ldof}\n"))
 }

@@ -4,7 +4,7 @@
 use crate::calls::{answer, held, Planner, Returned};
 use crate::gen::{draw, Drawn};
 use crate::job::{read, Job, Lengths, Net, LAST_REFUSAL};
-use crate::plan::{print, walk, Plan};
+use crate::plan::{excess, plan, print, walk, Plan};
 use crate::{brute, check};
 use std::fmt;
 
@@ -14,14 +14,38 @@ pub const BRUTE_MOST: u64 = 40_000;
 pub const BRUTE_MOST_NETS: usize = 20;
 pub const BRUTE_MOST_ENTRIES: usize = 40;
 
+/// And on each edge of a tiny job, if there are at most so many, all ways to hand out its tracks.
+pub const BRUTE_MOST_HAND_OUTS: u64 = 300_000;
+
 fn tiny(job: &Job) -> bool {
     let few = job.nets.len() <= BRUTE_MOST_NETS && job.entries() <= BRUTE_MOST_ENTRIES;
     few && brute::layerings(job, BRUTE_MOST).is_some()
 }
 
-/// All checks of the plan of an accepted job: `check`, the length of its print, and on a tiny job `brute`. Returns how
-/// many layerings were looked at, where the job is tiny.
-pub fn checked(job: &Job, plan: &Plan) -> Result<Option<u64>, String> {
+/// What `brute` looked at in a tiny job.
+pub struct Looked {
+    pub layerings: u64,
+    pub hand_outs: u64,
+}
+
+/// Without its `low` lines, the job has the same plan and prints the same lines but for `ldof`; each entry of the order
+/// list then has layer 1.
+fn placing_is_untouched(job: &Job, with: &Plan) -> Result<(), String> {
+    let mut other = job.clone();
+    other.nets.iter_mut().for_each(|net| net.low = None);
+    let without = plan(&other);
+    let mut same = Plan { ldof: None, ..with.clone() };
+    same.order.iter_mut().for_each(|entry| entry.low = 1);
+    let last = with.ldof.map_or(String::new(), |ldof| format!("ldof={ldof}\n"));
+    if without != same || print(with) != print(&without) + &last {
+        return Err(format!("without its `low` lines the job has the plan {without:?}"));
+    }
+    Ok(())
+}
+
+/// All checks of the plan of an accepted job: `check`, the length of its print, and on a tiny job `brute`, and the same job
+/// without its `low` lines. Returns what `brute` looked at, where the job is tiny.
+pub fn checked(job: &Job, plan: &Plan) -> Result<Option<Looked>, String> {
     check::check(job, plan)?;
     let printed = print(plan).len();
     if job.need().print.is_some_and(|need| printed > need) {
@@ -37,7 +61,9 @@ pub fn checked(job: &Job, plan: &Plan) -> Result<Option<u64>, String> {
             return Err("the walk is not in the order of the ways to its tiles".to_string());
         }
     }
-    Ok(Some(layerings))
+    let hand_outs = brute::directives(job, &excess(job), plan.ldof, BRUTE_MOST_HAND_OUTS)?;
+    placing_is_untouched(job, plan)?;
+    Ok(Some(Looked { layerings, hand_outs }))
 }
 
 /// Whether several pins of the net are in one tile.
@@ -67,8 +93,12 @@ pub struct Summary {
     pub with_directions: u64,
     /// Accepted jobs with a track count that no byte holds.
     pub with_many_tracks: u64,
+    /// Accepted jobs with a `low` line, and those of them with nets that must go without.
+    pub with_low_lines: u64,
+    pub with_ldof: u64,
     pub brute: u64,
     pub layerings: u64,
+    pub hand_outs: u64,
 }
 
 impl fmt::Display for Summary {
@@ -77,12 +107,13 @@ impl fmt::Display for Summary {
         write!(out, "accepted={} of_these_with_overflow={}", self.accepted, self.with_overflow)?;
         write!(out, " with_directions={}", self.with_directions)?;
         writeln!(out, " with_a_capacity_above_255={}", self.with_many_tracks)?;
+        writeln!(out, "accepted_with_low_lines={} of_these_with_ldof_above_0={}", self.with_low_lines, self.with_ldof)?;
         writeln!(out, "nets={} of_these_with_stacked_pins={}", self.nets, self.stacked)?;
         let refused: Vec<String> = (1..=LAST_REFUSAL).map(|n| format!("{n}:{}", self.refused[n])).collect();
         writeln!(out, "refused {}", refused.join(" "))?;
         write!(out, "largest accepted: text={} nets={}", self.largest_text, self.most_nets)?;
         writeln!(out, " edges={} vias={}; texts of the full length: {}", self.most_edges, self.most_vias, self.full)?;
-        writeln!(out, "by_brute_force={} layerings={}", self.brute, self.layerings)
+        writeln!(out, "by_brute_force={} layerings={} hand_outs={}", self.brute, self.layerings, self.hand_outs)
     }
 }
 
@@ -123,14 +154,17 @@ impl Summary {
             let Ok(plan) = expected else { continue };
 
             let job = &read(text, lent).map_err(|refusal| format!("{refusal:?} after an accepted call"))?;
-            if let Some(layerings) = checked(job, &plan)? {
+            if let Some(looked) = checked(job, &plan)? {
                 self.brute += 1;
-                self.layerings += layerings;
+                self.layerings += looked.layerings;
+                self.hand_outs += looked.hand_outs;
             }
             self.accepted += 1;
             self.with_overflow += u64::from(plan.total_overflow > 0);
             self.with_directions += u64::from(job.dirs.is_some());
             self.with_many_tracks += u64::from(job.capacity.iter().flatten().any(|tracks| *tracks > 255));
+            self.with_low_lines += u64::from(plan.ldof.is_some());
+            self.with_ldof += u64::from(plan.ldof.is_some_and(|ldof| ldof > 0));
             self.full += u64::from(text.len() == crate::job::TEXT_LIMIT);
             self.largest_text = self.largest_text.max(text.len());
             self.most_nets = self.most_nets.max(job.nets.len());

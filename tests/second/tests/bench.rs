@@ -5,7 +5,8 @@ use second::brute;
 use second::calls::{answer, held, Buffers, Planner, Returned, Second};
 use second::check;
 use second::job::{read, Grid, Lengths, Net, Refusal, TEXT_LIMIT};
-use second::plan::{flat, plan, print, walk, Entry, Plan};
+use second::plan::{excess, flat, plan, print, walk, Entry, Plan};
+use second::run::BRUTE_MOST_HAND_OUTS;
 
 const AMPLE: Lengths = Lengths { work: 1 << 19, order: 4096, answer: 1 << 18, print: Some(1 << 20) };
 
@@ -28,6 +29,15 @@ fn directed(letters: &str, text: String) -> String {
     text.replacen("\nalpha=", &format!("\ndirs={letters}\nalpha="), 1)
 }
 
+/// The text with a `low` line for each net in turn, where its layer is not 0.
+fn marked(lows: &[usize], text: String) -> String {
+    let with = |text: String, (place, layer): (usize, &usize)| match layer {
+        0 => text,
+        _ => text.replacen(&format!("\nnet={place}\n"), &format!("\nnet={place}\nlow={layer}\n"), 1),
+    };
+    (1..).zip(lows).fold(text, with)
+}
+
 /// The plan of an accepted job, after all checks.
 fn planned(text: &str) -> Plan {
     let job = read(text.as_bytes(), AMPLE).expect("accepted");
@@ -38,6 +48,7 @@ fn planned(text: &str) -> Plan {
     if brute::layerings(&job, 100_000).is_some() {
         brute::check(&job, &plan.order, &plan.layers.concat(), &exact).unwrap();
     }
+    brute::directives(&job, &excess(&job), plan.ldof, BRUTE_MOST_HAND_OUTS).unwrap();
     plan
 }
 
@@ -61,7 +72,7 @@ fn c1() {
     let printed = "order=2,1\nnet=1\nvias=2\nlayers=2,1\nnet=2\nvias=0\nlayers=1\n\
         total_vias=2\ntotal_overflow=0\nmax_overflow=0\n";
     assert_eq!(print(&plan), printed);
-    assert_eq!(plan.order, [Entry { net: 2, score: 3000 }, Entry { net: 1, score: 2500 }]);
+    assert_eq!(plan.order, [Entry { net: 2, low: 1, score: 3000 }, Entry { net: 1, low: 1, score: 2500 }]);
 }
 
 #[test]
@@ -343,6 +354,223 @@ fn edges_without_a_layer() {
     assert_eq!(refused(&format!("{}x", job("0,0,n"))), (13, 18));
 }
 
+/// S-5: 18 lines, one of them `low`, for the first net.
+const MARKED: [&str; 18] = [
+    "width=3",
+    "height=2",
+    "layers=2",
+    "alpha=1",
+    "beta=1",
+    "gamma=0",
+    "east=1,1,1,1",
+    "north=1,1,1",
+    "east=1,1,1,1",
+    "north=1,1,1",
+    "nets=2",
+    "net=1",
+    "low=2",
+    "pins=0,0,1;2,1,2",
+    "edges=0,0,e;1,0,e;2,0,n",
+    "net=2",
+    "pins=0,0,1;0,1,1",
+    "edges=0,0,n",
+];
+
+/// MARKED with other lines in the place of some of them, counted from 1.
+fn marked_with(others: &[(usize, &str)]) -> String {
+    let mut lines = MARKED;
+    others.iter().for_each(|(line, other)| lines[line - 1] = other);
+    lines.join("\n") + "\n"
+}
+
+#[test]
+fn the_low_line() {
+    let low = |line: &str| refused(&marked_with(&[(13, line)]));
+    assert_eq!(["low=1", "low=2"].map(low), [(0, 0); 2]);
+    assert_eq!(["low=0", "low=3", "low=9", "low=255", "low=256", "low=65537", "low=99999"].map(low), [(3, 13); 7]);
+    for line in [
+        "low=",
+        "low=02",
+        "low=00",
+        "low=2,2",
+        "low=2,",
+        "low= 2",
+        "low=2 ",
+        "low=2\r",
+        "low=x",
+        "low=+1",
+        "low=-1",
+        "low=100000",
+        "low=4294967297",
+        "low=18446744073709551617",
+        "low==2",
+        "low",
+        "low2",
+        "low 2",
+        "Low=2",
+        "LOW=2",
+        "lows=2",
+        " low=2",
+        "low=2\0",
+        "",
+    ] {
+        assert_eq!(low(line), (2, 13), "{line}");
+    }
+    assert_eq!(low("low=2\nlow=2"), (2, 14));
+    assert_eq!(low("low=1\nlow=3"), (2, 14));
+    assert_eq!(low("low=3\nlow=1"), (3, 13));
+    // no byte 10 ends it
+    let whole = marked_with(&[]);
+    let end = whole.find("low=2").unwrap();
+    for length in 0..=5 {
+        assert_eq!(refused(&whole[..end + length]), (2, 13));
+    }
+    assert_eq!(refused(&whole[..end + 6]), (2, 14));
+    // it comes after 4, and before what stands on `pins`
+    assert_eq!(refused(&marked_with(&[(12, "net=2"), (13, "low=0")])), (4, 12));
+    assert_eq!(refused(&marked_with(&[(13, "low=0"), (14, "pins=")])), (3, 13));
+    assert_eq!(refused(&marked_with(&[(13, "low="), (14, "pins=")])), (2, 13));
+    // behind `pins`, behind `edges`, before `net`, before the first net
+    assert_eq!(refused(&marked_with(&[(13, MARKED[13]), (14, "low=2")])), (2, 14));
+    assert_eq!(refused(&marked_with(&[(13, MARKED[13]), (14, MARKED[14]), (15, "low=2")])), (2, 15));
+    assert_eq!(refused(&marked_with(&[(12, "low=2"), (13, "net=1")])), (2, 12));
+    assert_eq!(refused(&format!("{whole}low=2\n")), (2, 19));
+    // K = 8
+    let eight = |layer: usize| refused(&marked(&[layer], text([1, 1, 8], [1; 3], &[("", ""); 8], &[("0,0,1", "")])));
+    assert_eq!([1, 8, 9].map(eight), [(0, 0), (0, 0), (3, 25)]);
+}
+
+#[test]
+fn later_lines_count_one_more() {
+    let need = Lengths { work: 234, order: 2, answer: 4, print: Some(392) };
+    let whole = marked_with(&[]);
+    assert_eq!(read(whole.as_bytes(), need).unwrap().need(), need);
+    for line in 1..=MARKED.len() {
+        let missing = MARKED[..line - 1].iter().map(|line| format!("{line}\n")).collect::<String>();
+        assert_eq!(refused(&missing), (2, line as u32), "without line {line}");
+        let doubled = format!("{}\n{0}", MARKED[line - 1]);
+        assert_eq!(refused(&marked_with(&[(line, &doubled)])), (2, line as u32 + 1), "line {line} twice");
+    }
+    assert_eq!(refused(&format!("{whole}x")), (2, 19));
+    assert_eq!(refused(&marked_with(&[(14, "pins=0,0,1;0,0,1")])), (5, 14));
+    assert_eq!(refused(&marked_with(&[(15, "edges=0,0,e;0,0,e")])), (6, 15));
+    assert_eq!(refused(&marked_with(&[(16, "net=1")])), (4, 16));
+    assert_eq!(refused(&marked_with(&[(18, "edges=0,0,e")])), (8, 18));
+    assert_eq!(refusal(&whole, need), (0, 0));
+    assert_eq!(refusal(&whole, Lengths { order: 1, ..need }), (10, 11));
+    assert_eq!(refusal(&whole, Lengths { answer: 3, ..need }), (11, 18));
+    assert_eq!(refusal(&whole, Lengths { print: Some(391), ..need }), (11, 18));
+    assert_eq!(refusal(&whole, Lengths { print: None, ..need }), (0, 0));
+    // also for the last net, and with directions
+    let last = |layer: &str| marked_with(&[(16, &format!("net=2\n{layer}"))]);
+    assert_eq!([refusal(&last("low=1"), need), refusal(&last("low=3"), need)], [(0, 0), (3, 17)]);
+    assert_eq!(refusal(&last("low=1"), Lengths { answer: 3, print: None, ..need }), (11, 19));
+    let along = marked(&[2, 3], directed("h,h", C1.to_string()));
+    assert_eq!([refused(&along), refused(&along.replace("low=3", "low=2"))], [(3, 18), (0, 0)]);
+}
+
+/// Two tiles with these tracks on the layers of the edge between; so many nets there, layer by layer, want this layer and
+/// up. All have a `low` line.
+fn one_edge(tracks: &[&str], nets: &[usize]) -> String {
+    let lows: Vec<usize> = (1..).zip(nets).flat_map(|(layer, count)| vec![layer; *count]).collect();
+    let capacities: Vec<(&str, &str)> = tracks.iter().map(|tracks| (*tracks, "")).collect();
+    marked(&lows, text([2, 1, tracks.len()], [1, 1, 0], &capacities, &vec![("0,0,1;1,0,1", "0,0,e"); lows.len()]))
+}
+
+#[test]
+fn ldof_of_one_edge() {
+    let ldof = |tracks: &[&str], nets: &[usize]| planned(&one_edge(tracks, nets)).ldof;
+    // source document 001, figures 3, 4 and 5: three layers with 10 tracks each
+    assert_eq!(ldof(&["10"; 3], &[0, 11, 8]), Some(0));
+    assert_eq!(ldof(&["10"; 3], &[0, 11, 12]), Some(3));
+    assert_eq!(ldof(&["10"; 3], &[0, 14, 8]), Some(2));
+    // the same with fewer tracks, so that all ways to hand them out are looked at
+    assert_eq!(ldof(&["2"; 3], &[0, 2, 1]), Some(0));
+    assert_eq!(ldof(&["2"; 3], &[0, 3, 4]), Some(3));
+    assert_eq!(ldof(&["2"; 3], &[0, 4, 1]), Some(1));
+    // no tracks on the highest layer
+    assert_eq!(ldof(&["9", "9", "0"], &[0, 0, 4]), Some(4));
+    assert_eq!(ldof(&["9", "9", "0"], &[0, 4, 0]), Some(0));
+    assert_eq!(ldof(&["9", "9", "0"], &[0, 9, 1]), Some(1));
+    // all nets want the highest
+    assert_eq!(ldof(&["9", "9", "3"], &[0, 0, 4]), Some(1));
+    assert_eq!(ldof(&["9", "9", "4"], &[0, 0, 4]), Some(0));
+    assert_eq!(ldof(&["0"; 8], &[0, 0, 0, 0, 0, 0, 0, 5]), Some(5));
+    // what is short higher up takes nothing from the layers below
+    assert_eq!(ldof(&["0", "1", "1", "1"], &[0, 1, 1, 3]), Some(2));
+    assert_eq!(ldof(&["0", "0", "1", "1"], &[0, 1, 0, 3]), Some(2));
+    // nets that want layer 1 do not count, and its tracks are wanted by nobody else
+    assert_eq!(ldof(&["0", "1"], &[7, 1]), Some(0));
+    assert_eq!(ldof(&["0", "1"], &[7, 3]), Some(2));
+    assert_eq!(ldof(&["65535", "0"], &[0, 3]), Some(3));
+    assert_eq!(ldof(&["0", "65535"], &[0, 3]), Some(0));
+    // the most nets, and the most tracks
+    assert_eq!(ldof(&["0"; 8], &[0, 0, 0, 0, 0, 0, 0, 4096]), Some(4096));
+    assert_eq!(ldof(&["511"; 8], &[0, 4096]), Some(4096 - 7 * 511));
+    assert_eq!(ldof(&["65535"; 8], &[0, 96, 0, 1000, 1000, 1000, 0, 1000]), Some(0));
+}
+
+#[test]
+fn ldof_of_a_job() {
+    // `low` 3, 3, 2, 1 and none on the edge; 2 in a net without edges
+    let mut nets = vec![("0,0,1", "0,0,e"); 5];
+    nets.push(("0,0,1", ""));
+    let five = |tracks: [&str; 3]| {
+        marked(&[3, 3, 2, 1, 0, 2], text([2, 1, 3], [1, 1, 0], &tracks.map(|tracks| (tracks, "")), &nets))
+    };
+    let plan = planned(&five(["2", "1", "1"]));
+    assert_eq!(plan.ldof, Some(1));
+    let lows: Vec<(u32, u32)> = plan.order.iter().map(|entry| (entry.net, entry.low)).collect();
+    assert_eq!(lows, [(1, 3), (2, 3), (3, 2), (4, 1), (5, 1), (6, 2)]);
+    // with directions, t still runs over all layers
+    assert_eq!(planned(&directed("h,v,h", five(["2", "0", "1"]))).ldof, Some(2));
+    assert_eq!(planned(&directed("h,h,v", five(["2", "1", "0"]))).ldof, Some(2));
+    assert_eq!(planned(&directed("h,h,h", five(["2", "1", "1"]))).ldof, Some(1));
+
+    // over all edges, to the east and to the north
+    let nets = [("0,0,1", "0,0,e;0,0,n"), ("0,0,1", "0,0,n;0,0,e"), ("1,1,1", "1,0,n;0,1,e"), ("0,0,1", "0,0,e")];
+    let square =
+        |lows: &[usize]| planned(&marked(lows, text([2, 2, 2], [1; 3], &[("9,9", "9,9"), ("1,0", "0,1")], &nets))).ldof;
+    assert_eq!(square(&[2, 2, 2, 2]), Some(2 + 1 + 2));
+    assert_eq!(square(&[0, 2, 2, 0]), Some(1 + 1));
+    assert_eq!(square(&[1, 2, 0, 1]), Some(1));
+    assert_eq!(square(&[0, 0, 0, 1]), Some(0));
+    assert_eq!(square(&[]), None);
+}
+
+#[test]
+fn c1_with_low_lines() {
+    let lines = "order=2,1\nnet=1\nvias=2\nlayers=2,1\nnet=2\nvias=0\nlayers=1\n\
+        total_vias=2\ntotal_overflow=0\nmax_overflow=0\n";
+    for (lows, one, two, last) in [
+        ([2, 0], 2, 1, "ldof=0\n"),
+        ([0, 2], 1, 2, "ldof=0\n"),
+        ([1, 1], 1, 1, "ldof=0\n"),
+        ([1, 0], 1, 1, "ldof=0\n"),
+        ([2, 2], 2, 2, "ldof=1\n"),
+        ([0, 0], 1, 1, ""),
+    ] {
+        let plan = planned(&marked(&lows, C1.to_string()));
+        assert_eq!(print(&plan), format!("{lines}{last}"), "{lows:?}");
+        let order = [Entry { net: 2, low: two, score: 3000 }, Entry { net: 1, low: one, score: 2500 }];
+        assert_eq!(plan.order, order, "{lows:?}");
+    }
+    assert_eq!(refused(&marked(&[3, 0], C1.to_string())), (3, 13));
+    assert_eq!(refused(&marked(&[2, 3], C1.to_string())), (3, 17));
+
+    // no track above layer 1, where the net is put all the same
+    let plan = planned(&one_edge(&["2", "0"], &[0, 1]));
+    assert_eq!((plan.layers.concat(), plan.total_vias, plan.total_overflow), (vec![1], 0, 0));
+    let printed = "order=1\nnet=1\nvias=0\nlayers=1\ntotal_vias=0\ntotal_overflow=0\nmax_overflow=0\nldof=1\n";
+    assert_eq!(print(&plan), printed);
+    // without nets there is no such line
+    let none = planned(&one_edge(&["2", "0"], &[]));
+    assert_eq!(print(&none), "order=\ntotal_vias=0\ntotal_overflow=0\nmax_overflow=0\n");
+    // a net without edges
+    let plan = planned(&marked(&[4], text([1, 1, 4], [0; 3], &[("", ""); 4], &[("0,0,1;0,0,4", "")])));
+    assert_eq!((plan.total_vias, plan.ldof), (3, Some(0)));
+}
+
 #[test]
 fn c10() {
     let square = ["0,0,e", "0,1,e", "0,0,n", "1,0,n"];
@@ -511,11 +739,15 @@ fn questions_and_answers() {
     let told = asked(&format!("108 2 3 - {c1}108 2 3 389 {c1}0 0 0 0 0\n")).unwrap();
     let lines: Vec<&str> = told.lines().collect();
     let accepted = concat!(
-        r#"{"order": [[2, 3000], [1, 2500]], "plan": [[2, 1], [1]], "walks": [[0, 1], [0]], "vias": 2, "total": 0, "#,
+        r#"{"order": [[2, 1, 3000], [1, 1, 2500]], "plan": [[2, 1], [1]], "walks": [[0, 1], [0]], "vias": 2, "total": 0, "#,
         r#""maximum": 0, "text": "order=2,1\nnet=1\nvias=2\nlayers=2,1\nnet=2\nvias=0\nlayers=1\n"#,
         r#"total_vias=2\ntotal_overflow=0\nmax_overflow=0\n", "brute": true}"#
     );
     assert_eq!(lines, [accepted, r#"{"number": 11, "line": 17}"#, r#"{"number": 2, "line": 1}"#]);
+    let low = marked(&[2, 2], C1.to_string());
+    let told = asked(&format!("108 2 3 390 {}\n{low}", low.len())).unwrap();
+    assert!(told.starts_with(r#"{"order": [[2, 2, 3000], [1, 2, 2500]], "plan": [[2, 1], [1]], "#), "{told}");
+    assert!(told.ends_with("max_overflow=0\\nldof=1\\n\", \"brute\": true}\n"), "{told}");
 
     // 2 to the 16th layerings are not looked at one by one
     let edges: Vec<String> = (0..16).map(|x| format!("{x},0,e")).collect();
@@ -552,7 +784,7 @@ fn walk_of_a_cross() {
     let grid = Grid { width: 3, height: 3 };
     let edge = |tile: usize, way: usize| grid.way(tile, way).unwrap().1;
     let edges = vec![edge(3, 0), edge(4, 0), edge(5, 1), edge(1, 1), edge(4, 1)];
-    let steps = walk(grid, &Net { pins: Vec::new(), edges: edges.clone() });
+    let steps = walk(grid, &Net { edges: edges.clone(), ..Net::default() });
     let tiles: Vec<usize> = steps.iter().map(|step| step.tile).collect();
     assert_eq!(tiles, [1, 4, 5, 7, 3, 8]);
     let above: Vec<Option<usize>> = steps.iter().map(|step| step.edge).collect();
@@ -585,6 +817,8 @@ fn wrong_plans_are_noticed() {
     assert_eq!(noticed(&|plan| plan.vias[0] += 1), (true, true));
     assert_eq!(noticed(&|plan| plan.total_overflow += 1), (true, true));
     assert_eq!(noticed(&|plan| plan.max_overflow += 1), (true, true));
+    assert_eq!(noticed(&|plan| plan.order[1].low = 2), (true, true));
+    assert_eq!(noticed(&|plan| plan.order[1].low = 0), (true, true));
     let other_net_first = |plan: &mut Plan| {
         plan.layers = vec![vec![1, 1], vec![2]];
         plan.vias = vec![0, 2];
@@ -617,6 +851,26 @@ fn wrong_plans_of_a_job_with_directions_are_noticed() {
     assert_eq!(noticed([2, 1, 3, 3]), (true, true)); // later in walk order
     assert_eq!(noticed([1, 3, 3, 3]), (true, true)); // a layer that runs the other way
     assert_eq!(noticed([1, 2, 1, 3]), (true, true));
+}
+
+#[test]
+fn wrong_sums_of_the_directives_are_noticed() {
+    let noticed = |job: &str, by_edge: [u64; 2], ldof: Option<u64>| {
+        let job = read(job.as_bytes(), AMPLE).unwrap();
+        let wrong = Plan { ldof, ..plan(&job) };
+        let by_brute = brute::directives(&job, &by_edge, ldof, BRUTE_MOST_HAND_OUTS).is_err();
+        (check::check(&job, &wrong).is_err(), by_brute)
+    };
+    let both = marked(&[2, 2], C1.to_string());
+    assert_eq!(noticed(&both, [1, 0], Some(1)), (false, false));
+    assert_eq!(noticed(&both, [0, 0], Some(0)), (true, true));
+    assert_eq!(noticed(&both, [2, 0], Some(2)), (true, true));
+    assert_eq!(noticed(&both, [0, 1], Some(1)), (false, true)); // the sum alone is right
+    assert_eq!(noticed(&both, [1, 0], None), (true, true));
+    assert_eq!(noticed(&marked(&[1, 0], C1.to_string()), [0, 0], Some(0)), (false, false));
+    assert_eq!(noticed(&marked(&[1, 0], C1.to_string()), [0, 0], None), (true, true));
+    assert_eq!(noticed(C1, [0, 0], None), (false, false));
+    assert_eq!(noticed(C1, [0, 0], Some(0)), (true, true));
 }
 
 /// A planner that does one more thing after the call.
@@ -652,6 +906,8 @@ fn wrong_effects_are_noticed() {
         Careless(|work, _, _, _, _| *work.last_mut().unwrap() = 1),
         Careless(|_, order, _, _, _| order[0].score ^= 1),
         Careless(|_, order, _, _, _| order.last_mut().unwrap().net ^= 1),
+        Careless(|_, order, _, _, _| order[0].low ^= 1),
+        Careless(|_, order, _, _, _| order.last_mut().unwrap().low ^= 1),
         Careless(|_, _, answer, _, _| answer[0] ^= 1),
         Careless(|_, _, answer, _, _| *answer.last_mut().unwrap() ^= 1),
         Careless(|_, _, _, print, _| print[0] ^= 1),

@@ -1,10 +1,11 @@
 //! Drawn jobs, checked; the run of the program `second self`, shorter and with every kind and damage.
 
-use second::brute;
 use second::calls::{answer, held, Second};
 use second::gen::{draw, write, Damage, Kind, DAMAGES, KINDS};
-use second::job::{read, Job, Lengths, TEXT_LIMIT};
-use second::run::Summary;
+use second::job::{read, Grid, Job, Lengths, Net, Pin, TEXT_LIMIT};
+use second::plan::{excess, plan};
+use second::run::{Summary, BRUTE_MOST_HAND_OUTS};
+use second::{brute, check};
 
 #[test]
 fn a_run() {
@@ -15,17 +16,25 @@ fn a_run() {
     println!("{summary}");
     assert!(summary.refused.iter().all(|count| *count > 0), "every refusal occurs");
     assert!(summary.brute > 100 && summary.with_directions > 50 && summary.with_many_tracks > 30);
+    assert!(summary.with_low_lines > 60 && summary.with_ldof > 30 && summary.hand_outs > 300);
 }
 
 #[test]
 fn tiny_jobs_by_brute_force() {
     let (mut with_ties, mut with_overflow, mut three_branches, mut two_limits, mut many_tracks) = (0, 0, 0, 0, 0);
+    let (mut some_go_without, mut some_do_not, mut along) = (0, 0, 0);
     for seed in 0..400 {
         let drawn = draw(seed, Some(Kind::Tiny), Some(Damage::None));
         let lent = drawn.job.need();
         let plan = answer(&drawn.text, lent).unwrap();
         let returned = held(&Second, &drawn.text, lent, &Ok(plan.clone()), seed).unwrap();
         brute::check(&drawn.job, &plan.order, &plan.layers.concat(), &returned).unwrap();
+        brute::directives(&drawn.job, &excess(&drawn.job), plan.ldof, BRUTE_MOST_HAND_OUTS).unwrap();
+        let ldof = plan.ldof.unwrap_or(0);
+        let high = |net: &Net| if net.low > Some(1) { net.edges.len() as u64 } else { 0 };
+        some_go_without += usize::from(ldof > 0);
+        some_do_not += usize::from(ldof < drawn.job.nets.iter().map(high).sum());
+        along += usize::from(ldof > 0 && drawn.job.dirs.is_some());
         with_ties += usize::from(plan.order.windows(2).any(|pair| pair[0].score == pair[1].score));
         with_overflow += usize::from(plan.total_overflow > 0);
         let walks = drawn.job.nets.iter().map(|net| second::plan::walk(drawn.job.grid, net));
@@ -39,6 +48,44 @@ fn tiny_jobs_by_brute_force() {
         with_ties > 20 && with_overflow > 100 && three_branches > 20 && two_limits > 10 && many_tracks > 20,
         "{with_ties} {with_overflow} {three_branches} {two_limits} {many_tracks}"
     );
+    assert!(some_go_without > 80 && some_do_not > 60 && along > 30, "{some_go_without} {some_do_not} {along}");
+}
+
+/// Two tiles, these tracks on the layers of the edge between, and so many nets that want each layer and up.
+fn one_edge(tracks: &[u64], nets: &[u64]) -> Job {
+    let net = |low: usize| Net { low: Some(low as u8), pins: vec![Pin { tile: 0, layer: 1 }], edges: vec![0] };
+    Job {
+        grid: Grid { width: 2, height: 1 },
+        layers: tracks.len(),
+        dirs: None,
+        alpha: 0,
+        beta: 0,
+        gamma: 0,
+        capacity: tracks.iter().map(|tracks| vec![*tracks]).collect(),
+        nets: nets.iter().enumerate().flat_map(|(at, count)| vec![net(at + 1); *count as usize]).collect(),
+    }
+}
+
+/// The digits of a number to the base 3.
+fn base_3(number: u64, digits: u32) -> Vec<u64> {
+    (0..digits).map(|digit| number / 3u64.pow(digit) % 3).collect()
+}
+
+#[test]
+fn every_edge_with_few_tracks_and_nets() {
+    let (mut ways, mut some_go_without) = (0, 0);
+    for layers in 2..=4u32 {
+        for number in 0..9u64.pow(layers) {
+            let digits = base_3(number, 2 * layers);
+            let (tracks, nets) = digits.split_at(layers as usize);
+            let job = one_edge(tracks, nets);
+            let plan = plan(&job);
+            check::check(&job, &plan).unwrap();
+            ways += brute::directives(&job, &excess(&job), plan.ldof, u64::MAX).unwrap();
+            some_go_without += u64::from(plan.ldof > Some(0));
+        }
+    }
+    assert!(ways > 100_000 && some_go_without > 3000, "{ways} {some_go_without}");
 }
 
 /// Every damage on every kind but the largest ones: where the refusal is known beforehand, it is that.

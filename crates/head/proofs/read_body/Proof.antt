@@ -3,7 +3,7 @@
 use mathlib.Core.Path.{refl, sym, ap, _∙_}
 use Prim.Native.Nat.{_+_, _*_, _≤_}
 use lib.ListN.{length}
-use Rattle.theory.specs.links.JobText.{dirsLines, dirs-few}
+use Rattle.theory.specs.links.JobText.{optionLines, option-few}
 use Rattle.layout.specs.Dirs.{dirsOf}
 use Rattle.layout.specs.declared.Shape.{Shape}
 use Rattle.lines.specs.Told.{fieldTold, list-after}
@@ -16,8 +16,8 @@ use borrow.Author.Needs.{needs}
 use Rattle.head.proofs.read_body.Statement.{statement}
 use Rattle.head.proofs.read_body.Tie as tie
 
-few : (g : Shape) → dirsLines (dirsOf (g .k) (g .dirs)) ≤ 1
-few g = dirs-few (dirsOf (g .k) (g .dirs))
+few : (g : Shape) → optionLines (dirsOf (g .k) (g .dirs)) ≤ 1
+few g = option-few (dirsOf (g .k) (g .dirs))
 
 returns : tie.Need-returns
 unfolding bodyIn

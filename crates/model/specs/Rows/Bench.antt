@@ -9,10 +9,10 @@ use Rattle.model.specs.Rows.Row.{Row, _gives_}
 use Rattle.model.specs.Score.{Entry}
 use Rattle.model.specs.Text.{bytes}
 
--- an order list from its net numbers and scores
+-- an order list from its net numbers and scores, of nets without a line `low`
 abbrev pub orderOf : List (ℕ × ℕ) → List Entry
 orderOf [] = []
-orderOf (e ∷ es) = record { net = e .0; score = e .1 } ∷ orderOf es
+orderOf (e ∷ es) = record { net = e .0; low = 1; score = e .1 } ∷ orderOf es
 
 -- an accepted job: its order list, its plan, its three numbers, its print
 abbrev pub shows : List (ℕ × ℕ) → List (List ℕ) → ℕ → ℕ → ℕ → String → Outcome

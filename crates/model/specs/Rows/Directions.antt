@@ -149,7 +149,7 @@ abbrev pin : ℕ → ℕ → Pin
 pin t l = record { tile = t; layer = l }
 
 abbrev netWith : List Pin → List ℕ → Net
-netWith ps es = record { pins = ps; edges = es }
+netWith ps es = record { low = none; pins = ps; edges = es }
 
 abbrev jobWith : ℕ → ℕ → ℕ → Option (List ℕ) → List (List ℕ) → List Net → Job
 jobWith W H K ds cs ns = record { width = W; height = H; layers = K; dirs = ds; alpha = 1; beta = 1; gamma = 0; capacities = cs; nets = ns }

@@ -22,10 +22,11 @@ abbrev pin : ℕ → ℕ → Pin
 pin t l = record { tile = t; layer = l }
 
 abbrev netWith : List Pin → List ℕ → Net
-netWith ps es = record { pins = ps; edges = es }
+netWith ps es = record { low = none; pins = ps; edges = es }
 
+-- the entry of a net without a line `low`
 abbrev pub entry : ℕ → ℕ → Entry
-entry n s = record { net = n; score = s }
+entry n s = record { net = n; low = 1; score = s }
 
 -- a job of this width, height and number of layers, with alpha 1, beta 1, gamma 0
 abbrev jobWith : ℕ → ℕ → ℕ → List (List ℕ) → List Net → Job

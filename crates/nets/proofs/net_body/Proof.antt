@@ -5,7 +5,7 @@ use mathlib.Core.List.{List, []}
 use mathlib.Core.Path.{_≡_, refl, sym, ap, _∙_, subst}
 use Prim.Native.Nat.{ℕ, _+_}
 use native.Mathlib.Omega.{arith}
-use lib.ListN.{length}
+use lib.ListN.{length, getD}
 use borrow.Author.Needs.{needs}
 use Rattle.layout.specs.Areas.{tilesOf}
 use Rattle.edges.specs.Line.{LineRead, LineFound}
@@ -14,6 +14,7 @@ use Rattle.edges.specs.Reading.{Reading}
 use Rattle.edges.specs.declared.Edges.{Edges}
 use Rattle.edges.specs.declared.EdgesRead.{EdgesRead}
 use Rattle.layout.specs.Shapes.{sizesOf}
+use Rattle.layout.specs.Table.{viasColumn}
 use Rattle.layout.specs.declared.Shape.{Shape}
 use Rattle.lines.specs.Told.{After, mapped}
 use Rattle.model.specs.Read.{pinsLine}
@@ -32,7 +33,7 @@ returns c =
     let z = y .before .before .before .before .before .before in
     let x = z .args in
     let g = c .before .r .given in (
-      pins-bad (x .s .now) (x .c) (x .g) (z .pre .0) (x .row .i) (x .w .now) (z .pre .1 .1 .1) (tilesOf (x .g) (y .net-pins .last .1 .1 .0)) (y .net-pins .result) (y .net-pins .ensures .0) (g .0 .0) (g .1),
+      pins-bad (x .s .now) (x .c) (x .g) (z .pre .0) (x .row .i) (x .w .now) (z .pre .1 .1 .1) (getD (x .table .now) (viasColumn (x .row .i)) 0) (tilesOf (x .g) (y .net-pins .last .1 .1 .0)) (y .net-pins .result) (y .net-pins .ensures .0) (g .0 .0) (g .1),
       (y .net-pins .ensures .1 .1 .long, refl),
     )
 
@@ -57,6 +58,9 @@ module _ (c : tie.After-p) where
   abbrev i : ℕ
   i = z .args .row .i
 
+  abbrev m : ℕ
+  m = getD (z .args .table .now) (viasColumn (z .args .row .i)) 0
+
   abbrev w₀ : List ℕ
   w₀ = z .args .w .now
 
@@ -76,10 +80,10 @@ module _ (c : tie.After-p) where
   stands = line-in (length s) (at .at + 5) (at .line + 1) (y .net-pins .result) p d (c .p .given .1) (y .net-pins .ensures .1 .0)
 
   abbrev found-pins : PinsFound g (i + 1) s at (tilesOf g w₀) (tilesOf g w₁) p d
-  found-pins = fine s at g (z .pre .0) i w₀ (z .pre .1 .1 .1) w₁ p d told (y .net-pins .ensures .1 .1) stands
+  found-pins = fine s at g (z .pre .0) i w₀ (z .pre .1 .1 .1) m w₁ p d told (y .net-pins .ensures .1 .1) stands
 
   started : Reading g (i + 1) (found-pins .pins) [] (p .tiles) w₀ w₁
-  started = reading s at g (z .pre .0) i w₀ (z .pre .1 .1 .1) w₁ p d told (y .net-pins .ensures .1 .1) stands
+  started = reading s at g (z .pre .0) i w₀ (z .pre .1 .1 .1) m w₁ p d told (y .net-pins .ensures .1 .1) stands
 
 edges-line-requires : tie.Need-edges-line-requires
 edges-line-requires c κs =
@@ -88,15 +92,15 @@ edges-line-requires c κs =
       r .0,
       (
         (
-          still-room (s q) (at q) (g q) (r .0) (i q) (w₀ q) (r .1 .1 .1) (w₁ q) (p q) (d q) (told q) (y q .net-pins .ensures .1 .1) (stands q),
+          still-room (s q) (at q) (g q) (r .0) (i q) (w₀ q) (r .1 .1 .1) (m q) (w₁ q) (p q) (d q) (told q) (y q .net-pins .ensures .1 .1) (stands q),
           omega (arith, r .1 .1 .1 .turn),
           r .1 .0 .2,
           stands q .1 .place,
           omega (arith, stands q .1 .lines, r .1 .0 .1),
         ),
         (
-          still-few (s q) (at q) (g q) (r .0) (i q) (w₀ q) (r .1 .1 .1) (w₁ q) (p q) (d q) (told q) (y q .net-pins .ensures .1 .1) (stands q),
-          begun (s q) (at q) (g q) (r .0) (i q) (w₀ q) (r .1 .1 .1) (w₁ q) (p q) (d q) (told q) (y q .net-pins .ensures .1 .1) (stands q),
+          still-few (s q) (at q) (g q) (r .0) (i q) (w₀ q) (r .1 .1 .1) (m q) (w₁ q) (p q) (d q) (told q) (y q .net-pins .ensures .1 .1) (stands q),
+          begun (s q) (at q) (g q) (r .0) (i q) (w₀ q) (r .1 .1 .1) (m q) (w₁ q) (p q) (d q) (told q) (y q .net-pins .ensures .1 .1) (stands q),
         ),
       ),
     )
@@ -114,7 +118,7 @@ returns-2 c =
     let l = c .before .before .before .before .before in
     let k = q l in
     let h = c .before .r2 .given in (
-      edges-bad (s k) (at k) (g k) (z k .pre .0) (i k) (w₀ k) (z k .pre .1 .1 .1) (w₁ k) (p k) (d k) (told k) (y k .net-pins .ensures .1 .1) (stands k) (l .edges-line .last .1 .1 .0) (l .edges-line .result) (read-edges l) (h .0 .0) (h .1),
+      edges-bad (s k) (at k) (g k) (z k .pre .0) (i k) (w₀ k) (z k .pre .1 .1 .1) (m k) (w₁ k) (p k) (d k) (told k) (y k .net-pins .ensures .1 .1) (stands k) (l .edges-line .last .1 .1 .0) (l .edges-line .result) (read-edges l) (h .0 .0) (h .1),
       (l .edges-line .ensures .1 ∙ y k .net-pins .ensures .1 .1 .long, refl),
     )
 
@@ -145,9 +149,9 @@ put-row-requires c κs =
       (
         omega (arith, stands k .0, r .1 .0),
         omega (arith, found-edges b .from-in, r .1 .0 .2),
-        pins-number (s k) (at k) (g k) (r .0) (i k) (w₀ k) (r .1 .1 .1) (w₁ k) (p k) (d k) (told k) (y k .net-pins .ensures .1 .1) (stands k) (w₂ b) (e b) (f b) (found-edges b),
+        pins-number (s k) (at k) (g k) (r .0) (i k) (w₀ k) (r .1 .1 .1) (m k) (w₁ k) (p k) (d k) (told k) (y k .net-pins .ensures .1 .1) (stands k) (w₂ b) (e b) (f b) (found-edges b),
         r .1 .1 .0 .1,
-        omega (arith, edges-number (s k) (at k) (g k) (r .0) (i k) (w₀ k) (r .1 .1 .1) (w₁ k) (p k) (d k) (told k) (y k .net-pins .ensures .1 .1) (stands k) (w₂ b) (e b) (f b) (found-edges b)),
+        omega (arith, edges-number (s k) (at k) (g k) (r .0) (i k) (w₀ k) (r .1 .1 .1) (m k) (w₁ k) (p k) (d k) (told k) (y k .net-pins .ensures .1 .1) (stands k) (w₂ b) (e b) (f b) (found-edges b)),
       ),
     )
 
@@ -157,7 +161,7 @@ returns-3 c =
     let k = q (l b) in
     let r = z k .pre in
     let t = c .before .before .put-row in
-    let done = body-found (s k) (at k) (g k) (r .0) (i k) (w₀ k) (r .1 .1 .1) (w₁ k) (p k) (d k) (told k) (y k .net-pins .ensures .1 .1) (stands k) (w₂ b) (e b) (f b) (found-edges b) (z k .args .table .now) (z k .args .row .first) (r .1 .1 .0 .0) in (
+    let done = body-found (s k) (at k) (g k) (r .0) (i k) (w₀ k) (r .1 .1 .1) (m k) (w₁ k) (p k) (d k) (told k) (y k .net-pins .ensures .1 .1) (stands k) (w₂ b) (e b) (f b) (found-edges b) (z k .args .table .now) (z k .args .row .first) (r .1 .1 .0 .0) refl in (
       rw (t .ensures) done,
       (l b .edges-line .ensures .1 ∙ y k .net-pins .ensures .1 .1 .long, rw (t .ensures) (done .table-long)),
     )

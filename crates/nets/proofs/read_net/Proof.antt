@@ -1,4 +1,4 @@
--- `read_net` meets its contract: the `net` line, and behind it the two others.
+-- `read_net` meets its contract: the `net` line, and behind it the others.
 -- Assumes nothing.
 use mathlib.Core.Path.{refl}
 use Prim.Native.Nat.{_+_}
@@ -28,8 +28,8 @@ module _ (c : tie.After-d) where
   behind : After (length (z .args .s .now)) (z .args .c .line + 1) (c .d .given .0 .0)
   behind = list-after (l .net-line .result) (length (z .args .s .now)) (z .args .c .line + 1) (c .d .given .0 .0) (c .d .given .1) (l .net-line .ensures .1)
 
-net-body-requires : tie.Need-net-body-requires
-net-body-requires c κs =
+net-rest-requires : tie.Need-net-rest-requires
+net-rest-requires c κs =
     let d = c .before .before .before in
     let r = z d .pre in
     (r .0, ((behind d .place, omega (arith, behind d .lines, r .1 .0 .1), r .1 .0 .2), (r .1 .1 .0, r .1 .1 .1)))
@@ -39,7 +39,7 @@ returns-2 c =
     let d = c .before .before .before .before .before .before .before .before in
     let x = z d .args in
     let f = d .d .given in
-    let y = c .before .before .before .before .net-body in (
+    let y = c .before .before .before .before .net-rest in (
       net-goes-on (x .s .now) (x .c) (x .g) (x .row .i) (l d .net-line .result) (l d .net-line .ensures .0) (f .0 .0) (f .1) (behind d .lines) (x .row .first) (x .w .now) (y .last .1 .1 .0) (x .table .now) (y .last .1 .1 .1 .1 .0) (y .result) (y .ensures .0),
       y .ensures .1,
     )
@@ -50,4 +50,4 @@ read-net-spec =
     (tie.spec
     (λ c. search needs)
     (λ c κs. let r = c .before .before .before .before .pre in (r .1 .0 .0, omega (arith, r .1 .0 .1)))
-    (λ c. search needs) (λ c. search needs) net-body-requires returns (λ c. search needs) (λ c. search needs) returns-2)
+    (λ c. search needs) (λ c. search needs) net-rest-requires returns (λ c. search needs) (λ c. search needs) returns-2)

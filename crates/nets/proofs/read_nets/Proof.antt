@@ -8,9 +8,10 @@ use borrow.Author.Needs.{needs}
 use Rattle.layout.specs.Shapes.{sizesOf}
 use Rattle.model.specs.Read.{netLines, nets}
 use Rattle.text.specs.Refusals.{placeOf}
+use Rattle.theory.specs.links.JobText.{optionLines}
 use Rattle.nets.specs.Nets.{NetTold}
 use Rattle.nets.specs.declared.NetRead.{NetRead}
-use Rattle.nets.proofs.Loop.{Midway, midway-start, midway-ready, midway-few, midway-stop, midway-next, midway-end, midway-count}
+use Rattle.nets.proofs.Loop.{Midway, midway-start, midway-ready, midway-lines, midway-few, midway-stop, midway-next, midway-end, midway-count}
 use Rattle.nets.proofs.read_nets.Statement.{statement}
 use Rattle.nets.proofs.read_nets.Tie as tie
 
@@ -31,7 +32,11 @@ read-net-requires c κs =
     let t = c .before .before .loop-test .taken in (
       r .0,
       (
-        (m .place, omega (arith, m .lines, t, r .1 .0), r .1 .0 .2),
+        (
+          m .place,
+          omega (arith, t, r .1 .0, midway-lines (x .s .now) (x .g) (r .0) (x .n) (x .from .line) (x .w .now) _ (l .w) (l .table) (l .c) (l .entries) (l .i) m),
+          r .1 .0 .2,
+        ),
         (
           (m .so-read .table-long, omega (arith, t, r .1 .0 .3, midway-few (x .s .now) (x .g) (r .0) (x .n) (x .from .line) (x .w .now) _ (l .w) (l .table) (l .c) (l .entries) (l .i) m)),
           midway-ready (x .s .now) (x .g) (r .0) (x .n) (x .from .line) (x .w .now) _ (l .w) (l .table) (l .c) (l .entries) (l .i) m t (r .1 .0 .3) (r .1 .1 .room),
@@ -48,7 +53,7 @@ returns c =
     let t = c .before .before .before .before .before .before .before .before .before .before .loop-test .taken in
     let y = c .before .before .before .before .before .before .before .read-net in
     let f = c .before .r .given in
-    let told = subst (λ (v : NetRead). NetTold (x .s .now) (x .g) (l .i) (l .entries) (l .c .line + 3) (l .w) (y .last .1 .1 .0) (l .table) (y .last .1 .1 .1 .1 .0) (netLines (sizesOf (x .g)) (l .i + 1) (placeOf (x .s .now) (l .c))) v) (f .1) (y .ensures .0) in (
+    let told = subst (λ (v : NetRead). NetTold (x .s .now) (x .g) (l .i) (l .entries) (λ n. l .c .line + 3 + optionLines (n .low)) (l .w) (y .last .1 .1 .0) (l .table) (y .last .1 .1 .1 .1 .0) (netLines (sizesOf (x .g)) (l .i + 1) (placeOf (x .s .now) (l .c))) v) (f .1) (y .ensures .0) in (
       midway-stop (x .s .now) (x .g) (r .0) (x .n) (x .from .line) (x .w .now) _ (l .w) (l .table) (l .c) (l .entries) (l .i) (l .inv .0) t (f .0 .0) told,
       (y .ensures .1 .0 ∙ l .inv .0 .so-read .long, y .ensures .1 .1 ∙ l .inv .1),
     )
@@ -62,12 +67,12 @@ add-entries c =
     let t = c .before .before .before .before .before .before .before .before .before .before .loop-test .taken in
     let y = c .before .before .before .before .before .before .before .read-net in
     let f = c .before .d .given in
-    let told = subst (λ (v : NetRead). NetTold (x .s .now) (x .g) (l .i) (l .entries) (l .c .line + 3) (l .w) (y .last .1 .1 .0) (l .table) (y .last .1 .1 .1 .1 .0) (netLines (sizesOf (x .g)) (l .i + 1) (placeOf (x .s .now) (l .c))) v) (f .1) (y .ensures .0) in
+    let told = subst (λ (v : NetRead). NetTold (x .s .now) (x .g) (l .i) (l .entries) (λ n. l .c .line + 3 + optionLines (n .low)) (l .w) (y .last .1 .1 .0) (l .table) (y .last .1 .1 .1 .1 .0) (netLines (sizesOf (x .g)) (l .i + 1) (placeOf (x .s .now) (l .c))) v) (f .1) (y .ensures .0) in
     omega (
       arith,
       t,
       r .1 .0 .3,
-      midway-count (x .s .now) (x .g) (r .0) (x .n) (x .from .line) (x .w .now) _ (l .w) (l .table) (l .c) (l .entries) (l .i) (l .inv .0) t (l .c .line + 3) (y .last .1 .1 .0) (y .last .1 .1 .1 .1 .0) (f .0 .0) (f .0 .1 .0) refl told,
+      midway-count (x .s .now) (x .g) (r .0) (x .n) (x .from .line) (x .w .now) _ (l .w) (l .table) (l .c) (l .entries) (l .i) (l .inv .0) t (y .last .1 .1 .0) (y .last .1 .1 .1 .1 .0) (f .0 .0) (f .0 .1 .0) told,
     )
 
 loop-again : tie.Need-loop-again Inv-loop μ-loop
@@ -79,8 +84,8 @@ loop-again c =
     let t = c .before .before .before .before .before .before .before .before .before .before .loop-test .taken in
     let y = c .before .before .before .before .before .before .before .read-net in
     let f = c .before .d .given in
-    let told = subst (λ (v : NetRead). NetTold (x .s .now) (x .g) (l .i) (l .entries) (l .c .line + 3) (l .w) (y .last .1 .1 .0) (l .table) (y .last .1 .1 .1 .1 .0) (netLines (sizesOf (x .g)) (l .i + 1) (placeOf (x .s .now) (l .c))) v) (f .1) (y .ensures .0) in (
-      midway-next (x .s .now) (x .g) (r .0) (x .n) (x .from .line) (x .w .now) _ (l .w) (l .table) (l .c) (l .entries) (l .i) (l .inv .0) t (l .c .line + 3) (y .last .1 .1 .0) (y .last .1 .1 .1 .1 .0) (f .0 .0) (f .0 .1 .0) refl told,
+    let told = subst (λ (v : NetRead). NetTold (x .s .now) (x .g) (l .i) (l .entries) (λ n. l .c .line + 3 + optionLines (n .low)) (l .w) (y .last .1 .1 .0) (l .table) (y .last .1 .1 .1 .1 .0) (netLines (sizesOf (x .g)) (l .i + 1) (placeOf (x .s .now) (l .c))) v) (f .1) (y .ensures .0) in (
+      midway-next (x .s .now) (x .g) (r .0) (x .n) (x .from .line) (x .w .now) _ (l .w) (l .table) (l .c) (l .entries) (l .i) (l .inv .0) t (y .last .1 .1 .0) (y .last .1 .1 .1 .1 .0) (f .0 .0) (f .0 .1 .0) told,
       y .ensures .1 .1 ∙ l .inv .1,
     )
 

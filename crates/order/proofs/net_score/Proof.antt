@@ -67,12 +67,14 @@ returns : tie.Need-returns
 returns c =
     let d = c .before in
     let b = d .before in
-    let x = s b .args in
-    λ lent j ready h are.
-    score-is (x .s .now) (x .g) (x .a) (x .w .now) (x .table .now) lent j ready (x .i) h (edges b) (pins b) (d .weighed-density .result) (edges-is b) (pins-is b) are
-    (d .weighed-density .ensures j (netOf j (suc (x .i)))
-    (line-at (x .s .now) (x .g) (x .a) (x .w .now) (x .table .now) lent j ready (x .i) h (p b) (p-is b)) (ready .demands) (ready .capacities))
-    (c .score .result) (c .score .ensures)
+    let x = s b .args in (
+      λ lent j ready h are.
+          score-is (x .s .now) (x .g) (x .a) (x .w .now) (x .table .now) lent j ready (x .i) h (edges b) (pins b) (d .weighed-density .result) (edges-is b) (pins-is b) are
+          (d .weighed-density .ensures j (netOf j (suc (x .i)))
+          (line-at (x .s .now) (x .g) (x .a) (x .w .now) (x .table .now) lent j ready (x .i) h (p b) (p-is b)) (ready .demands) (ready .capacities))
+          (c .score .result) (c .score .ensures .0),
+      c .score .ensures .1,
+    )
 
 pub net-score-spec : {M : Type 1} → statement M
 net-score-spec =

@@ -24,6 +24,14 @@ small-pins x h k = weighed (x .args .a .beta) (x .args .pins) 1048576 h k
 small-demand : (x : tie.Start) → x .args .a .gamma ≤ 255 → x .args .x .demand ≤ 4294967296 → 1000 * x .args .a .gamma * x .args .x .demand ≤ 255000 * 4294967296
 small-demand x h k = weighed (x .args .a .gamma) (x .args .x .demand) 4294967296 h k
 
+returns : tie.Need-returns
+returns c =
+    let first = c .before .before .before .before .floor-of in
+    let t = in-third (c .before) in (
+      omega (arith, first .ensures .0, c .floor-of2 .ensures .0),
+      omega (arith, first .ensures .1, c .floor-of2 .ensures .1, small-pins t (omega arith) (omega arith), small-demand t (omega arith) (omega arith), t .pre),
+    )
+
 pub score-spec : {M : Type 1} → statement M
 score-spec =
     tie.close
@@ -43,4 +51,4 @@ score-spec =
       c .before .before .before .before .floor-of .ensures,
       c .floor-of2 .ensures,
     ))
-    (λ c. search needs))
+    returns)

@@ -1,4 +1,4 @@
--- `score_nets` meets its contract. The loop's invariant: the first i scores are stored, and the other rows still have the entries of their `pins` lines; n - i falls.
+-- `score_nets` meets its contract. The loop's invariant: the first i scores are stored, and the other rows still have the tiles of their pins; n - i falls.
 -- Assumes nothing.
 use mathlib.Core.List.{List}
 use mathlib.Core.Path.{sym, subst}
@@ -37,7 +37,8 @@ put-score-requires c κs =
     let l = t .before in
     let s = l .before .before .before .before in
     let x = s .args in
-    few (x .s .now) (x .g) (x .a) (x .w .now) (x .table .now) (x .n) (l .loop .table) (l .loop .i) (l .loop .inv) (s .pre .1 .1) (t .loop-test .taken)
+    let f = few (x .s .now) (x .g) (x .a) (x .w .now) (x .table .now) (x .n) (l .loop .table) (l .loop .i) (l .loop .inv) (s .pre .1 .1) (t .loop-test .taken) in
+    (f .0, f .1, c .before .net-score .ensures .1)
 
 loop-again : tie.Need-loop-again Inv-loop μ-loop
 loop-again c =
@@ -49,7 +50,7 @@ loop-again c =
     let x = s .args in
     subst (λ (r : List ℕ). Scoring (x .s .now) (x .g) (x .a) (x .w .now) (x .table .now) (x .n) r (l .loop .i + 1)) (sym (put .put-score .ensures))
     (scoring-next (x .s .now) (x .g) (x .a) (x .w .now) (x .table .now) (x .n) (l .loop .table) (l .loop .i) (l .loop .inv) (s .pre .1 .1) (t .loop-test .taken)
-    (v .net-score .result) (v .net-score .ensures))
+    (v .net-score .result) (v .net-score .ensures .0))
 
 returns : tie.Need-returns Inv-loop μ-loop
 returns c =

@@ -14,8 +14,8 @@ flat-capacities-requires c κs =
     let y = h .before .before .before .before .before .before .read-job in
     let x = h .before .before .before .before .before .before .before .before .before .before .before .before .args in
     let f = h .h .given in
-    let k = subst (JobTold (x .s .now) (lentBy (length (x .w .now)) (x .order) (x .answer) (x .print)) (y .last .1 .0) (y .last .1 .1 .0)) (f .1) (y .ensures .0) in
-    (shaped (x .s .now) (lentBy (length (x .w .now)) (x .order) (x .answer) (x .print)) (y .last .1 .0) (y .last .1 .1 .0) (f .0 .0) k, (flat-room (x .s .now) (lentBy (length (x .w .now)) (x .order) (x .answer) (x .print)) (y .last .1 .0) (y .last .1 .1 .0) (f .0 .0) k, small (x .s .now) (lentBy (length (x .w .now)) (x .order) (x .answer) (x .print)) (y .last .1 .0) (y .last .1 .1 .0) (f .0 .0) k))
+    let k = subst (JobTold (x .s .now) (lentBy (length (x .w .now)) (x .lists .order) (x .lists .answer) (x .lists .print)) (y .last .1 .0) (y .last .1 .1 .0)) (f .1) (y .ensures .0) in
+    (shaped (x .s .now) (lentBy (length (x .w .now)) (x .lists .order) (x .lists .answer) (x .lists .print)) (y .last .1 .0) (y .last .1 .1 .0) (f .0 .0) k, (flat-room (x .s .now) (lentBy (length (x .w .now)) (x .lists .order) (x .lists .answer) (x .lists .print)) (y .last .1 .0) (y .last .1 .1 .0) (f .0 .0) k, small (x .s .now) (lentBy (length (x .w .now)) (x .lists .order) (x .lists .answer) (x .lists .print)) (y .last .1 .0) (y .last .1 .1 .0) (f .0 .0) k))
 
 score-nets-requires : tie.Need-score-nets-requires
 score-nets-requires c κs =
@@ -23,13 +23,13 @@ score-nets-requires c κs =
     let y = h .before .before .before .before .before .before .read-job in
     let x = h .before .before .before .before .before .before .before .before .before .before .before .before .args in
     let f = h .h .given in
-    let k = subst (JobTold (x .s .now) (lentBy (length (x .w .now)) (x .order) (x .answer) (x .print)) (y .last .1 .0) (y .last .1 .1 .0)) (f .1) (y .ensures .0) in
+    let k = subst (JobTold (x .s .now) (lentBy (length (x .w .now)) (x .lists .order) (x .lists .answer) (x .lists .print)) (y .last .1 .0) (y .last .1 .1 .0)) (f .1) (y .ensures .0) in
     let flat = c .before .before .before .before .before .flat-capacities in
     let a = c .before .weights-of in (
-      shaped (x .s .now) (lentBy (length (x .w .now)) (x .order) (x .answer) (x .print)) (y .last .1 .0) (y .last .1 .1 .0) (f .0 .0) k,
+      shaped (x .s .now) (lentBy (length (x .w .now)) (x .lists .order) (x .lists .answer) (x .lists .print)) (y .last .1 .0) (y .last .1 .1 .0) (f .0 .0) k,
       (
-        still-room (x .s .now) (lentBy (length (x .w .now)) (x .order) (x .answer) (x .print)) (y .last .1 .0) (y .last .1 .1 .0) (f .0 .0) k (flat .last .0) (flat .ensures .0) (flat .ensures .1),
-        some-job (x .s .now) (lentBy (length (x .w .now)) (x .order) (x .answer) (x .print)) (y .last .1 .0) (y .last .1 .1 .0) (f .0 .0) k (flat .last .0) (flat .ensures .0) (flat .ensures .1) (a .result) (a .ensures .0) (a .ensures .1) (a .ensures .2),
+        still-room (x .s .now) (lentBy (length (x .w .now)) (x .lists .order) (x .lists .answer) (x .lists .print)) (y .last .1 .0) (y .last .1 .1 .0) (f .0 .0) k (flat .last .0) (flat .ensures .0) (flat .ensures .1),
+        some-job (x .s .now) (lentBy (length (x .w .now)) (x .lists .order) (x .lists .answer) (x .lists .print)) (y .last .1 .0) (y .last .1 .1 .0) (f .0 .0) k (flat .last .0) (flat .ensures .0) (flat .ensures .1) (a .result) (a .ensures .0) (a .ensures .1) (a .ensures .2),
       ),
     )
 
@@ -39,7 +39,7 @@ returns c =
     let y = r .before .before .before .before .before .before .read-job in
     let x = r .before .before .before .before .before .before .before .before .before .before .before .before .args in
     let f = r .r .given in
-    subst (JobTold (x .s .now) (lentBy (length (x .w .now)) (x .order) (x .answer) (x .print)) (y .last .1 .0) (y .last .1 .1 .0)) (f .1) (y .ensures .0)
+    subst (JobTold (x .s .now) (lentBy (length (x .w .now)) (x .lists .order) (x .lists .answer) (x .lists .print)) (y .last .1 .0) (y .last .1 .1 .0)) (f .1) (y .ensures .0)
 
 returns-2 : tie.Need-returns-2
 returns-2 c =
@@ -50,8 +50,8 @@ returns-2 c =
     let y = h .before .before .before .before .before .before .read-job in
     let x = h .before .before .before .before .before .before .before .before .before .before .before .before .args in
     let f = h .h .given in
-    let k = subst (JobTold (x .s .now) (lentBy (length (x .w .now)) (x .order) (x .answer) (x .print)) (y .last .1 .0) (y .last .1 .1 .0)) (f .1) (y .ensures .0) in
-    opened (x .s .now) (lentBy (length (x .w .now)) (x .order) (x .answer) (x .print)) (y .last .1 .0) (y .last .1 .1 .0) (f .0 .0) k (flat .last .0) (flat .ensures .0) (flat .ensures .1) (a .result) (a .ensures .0) (a .ensures .1) (a .ensures .2) (scores .score-nets .last .1 .1 .1 .1 .0) (scores .score-nets .ensures)
+    let k = subst (JobTold (x .s .now) (lentBy (length (x .w .now)) (x .lists .order) (x .lists .answer) (x .lists .print)) (y .last .1 .0) (y .last .1 .1 .0)) (f .1) (y .ensures .0) in
+    opened (x .s .now) (lentBy (length (x .w .now)) (x .lists .order) (x .lists .answer) (x .lists .print)) (y .last .1 .0) (y .last .1 .1 .0) (f .0 .0) k (flat .last .0) (flat .ensures .0) (flat .ensures .1) (a .result) (a .ensures .0) (a .ensures .1) (a .ensures .2) (scores .score-nets .last .1 .1 .1 .1 .0) (scores .score-nets .ensures)
 
 pub open-job-spec : {M : Type 1} → statement M
 open-job-spec =

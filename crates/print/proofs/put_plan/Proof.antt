@@ -1,39 +1,33 @@
--- `put_plan` meets its contract.
+-- `put_plan` meets its contract: the lines of every plan, and behind them the last one.
 -- Assumes nothing.
+use mathlib.Core.List.{List, _++_}
+use mathlib.Core.Path.{_≡_}
+use Prim.Native.Nat.{ℕ, _+_}
 use native.Mathlib.Omega.{arith}
+use lib.ListN.{length, length-append}
 use borrow.Author.Needs.{needs}
-use Rattle.model.specs.Print.{printLine}
-use Rattle.print.specs.Texts.{netsText, turnsOf, rows-turns, totalsText}
-use Rattle.put.specs.Wrote.{room-one, room-two, room-three, wrote-then, from-start}
+use Rattle.print.specs.Texts.{linesText, ldofText}
+use Rattle.put.specs.Wrote.{wrote-long, wrote-then, from-start}
 use Rattle.print.proofs.put_plan.Statement.{statement}
 use Rattle.print.proofs.put_plan.Tie as tie
 
--- from behind each of the three writes to the one before it
-abbrev start : tie.After-put-order → tie.Start
-start c = c .before .before .before .before .before
+-- both texts have room
+module _ (z : tie.Start) where
+  abbrev lines : List ℕ
+  lines = linesText (z .args .p .nets) (z .args .table .now) (z .args .answer .now) (z .args .p .vias) (z .args .p .total) (z .args .p .most)
 
-abbrev first : tie.After-put-nets → tie.After-put-order
-first c = c .before .before .before .before
-
-abbrev second : tie.After-put-totals → tie.After-put-nets
-second c = c .before .before .before .before
+  both : length (lines ++ ldofText (z .args .p .last)) ≡ length lines + length (ldofText (z .args .p .last))
+  both = length-append lines (ldofText (z .args .p .last))
 
 pub put-plan-spec : {M : Type 1} → statement M
 put-plan-spec =
     tie.close
     (tie.spec
-    (λ c κs. let s = c .before .before .before .before in (
-      rows-turns (s .args .p .nets) (s .args .table .now) (s .args .answer .now) (s .pre .0),
-      room-one 0 (printLine "order" (turnsOf (s .args .table .now) (s .args .p .nets))) (netsText (s .args .table .now) (s .args .answer .now) 0 (s .args .p .nets))
-          (totalsText (s .args .p .vias) (s .args .p .total) (s .args .p .most)) (s .args .b .now) (omega (arith, s .pre .1)),
-    ))
-    (λ c κs. let a = c .before .before .before in let s = start a in (
-      s .pre .0,
-      room-two 0 (printLine "order" (turnsOf (s .args .table .now) (s .args .p .nets))) (netsText (s .args .table .now) (s .args .answer .now) 0 (s .args .p .nets))
-          (totalsText (s .args .p .vias) (s .args .p .total) (s .args .p .most)) (s .args .b .now) (omega (arith, s .pre .1)) (a .put-order .ensures),
-    ))
-    (λ c κs. let a = c .before .before .before in let s = start (first a) in
-    room-three 0 (printLine "order" (turnsOf (s .args .table .now) (s .args .p .nets))) (netsText (s .args .table .now) (s .args .answer .now) 0 (s .args .p .nets))
-    (totalsText (s .args .p .vias) (s .args .p .total) (s .args .p .most)) (s .args .b .now) (omega (arith, s .pre .1)) (first a .put-order .ensures) (a .put-nets .ensures))
+    (λ c κs. let z = c .before .before .before .before in (z .pre .0, omega (arith, z .pre .1, both z)))
+    (λ c κs. let l = c .before .before .before in
+    let z = l .before .before .before .before .before in
+    omega (arith, z .pre .1, both z, l .put-lines .ensures .next, wrote-long (l .put-lines .ensures)))
     (λ c. search needs)
-    (λ c. from-start (wrote-then (wrote-then (first (second (c .before .before)) .put-order .ensures) (second (c .before .before) .put-nets .ensures)) (c .before .before .put-totals .ensures))))
+    (λ c. let d = c .before .before in
+    let l = d .before .before .before .before in
+    from-start (wrote-then (l .put-lines .ensures) (d .put-ldof .ensures))))

@@ -6,8 +6,9 @@ use Prim.Native.Nat.{ℕ}
 use native.Mathlib.Omega.{arith}
 use borrow.Author.Needs.{needs}
 use Rattle.layout.specs.Areas.{loadsAt, flatAt, tilesAt, chosenAt}
+use Rattle.layout.specs.Fill.{PartCleared}
 use Rattle.layout.specs.declared.Shape.{Shape}
-use Rattle.nets.specs.Nets.{PartCleared, CountsCleared}
+use Rattle.nets.specs.Nets.{CountsCleared}
 use Rattle.reader.proofs.clear_counts.Statement.{statement}
 use Rattle.reader.proofs.clear_counts.Tie as tie
 

@@ -77,7 +77,7 @@ abbrev none : Val
 none = LL.val T.the-type T′.the-laws noEntry
 
 no-entry : Is T.the-row noEntry (none ∷ [])
-no-entry = LL.owes T.the-type T′.the-laws noEntry ((refl, lit< tt), ((refl, lit< tt), tt))
+no-entry = LL.owes T.the-type T′.the-laws noEntry ((refl, lit< tt), ((refl, lit< tt), ((refl, lit< tt), tt)))
 
 room-work : Room u32 working
 room-work = (lit< tt, lit< tt)
@@ -154,7 +154,7 @@ module _ {M : Type 1} (𝓤 : URA M) (H : Heap 𝓤) (A : Atoms 𝓤) (W : Given
         pass1 ! (init ! 26 refl (tt, (tt, (record { fits = room₀ .0 }, tt)))) $ pass1 ! (init ! 24 refl (tt, (tt, (record { fits = room₁ .0 }, tt)))) $ pass0 ! $
         -- the three arrays, each written whole. [the locals; the tokens; what the parameters own]
         made ! u32 (uint-copy 𝓤 H A W w32) (uint-lawful 𝓤 H A W w32) (uint-makes 𝓤 H A W w32) working 0 (vint w32 0) (refl, lit< tt) (λ wt-work. assigns ! (rep ! working (lit ! tt)) (from ! (stop !)) (init ! 23 refl wt-work) $ move ! (23 ∷ 0 ∷ []) $ array-row ! u32 working l₃ tt (replicate working 0) (arrayVal (replicate working (vint w32 0))) $
-        assigns ! (agg ! (and-then ! (lit ! tt) (and-then ! (lit ! tt) (no-more !)))) (from ! (stop !)) (init ! 17 refl (LL.lawful T.the-type T′.the-laws 𝓤 H A W .typed noEntry _ no-entry .0)) $
+        assigns ! (agg ! (and-then ! (lit ! tt) (and-then ! (lit ! tt) (and-then ! (lit ! tt) (no-more !))))) (from ! (stop !)) (init ! 17 refl (LL.lawful T.the-type T′.the-laws 𝓤 H A W .typed noEntry _ no-entry .0)) $
         made ! T.the-row (LL.copy T.the-type T′.the-copy 𝓤 H A W) (LL.lawful T.the-type T′.the-laws 𝓤 H A W) (LL.makes T.the-type T′.the-plain 𝓤 H A) entries noEntry none no-entry (λ wt-order. assigns ! (rep ! entries (load ! (from ! (stop !)) (look ! 18 refl))) (from ! (stop !)) (init ! 22 refl wt-order) $ move ! (22 ∷ 0 ∷ []) $ array-row ! T.the-row entries l₄ tt (replicate entries noEntry) (arrayVal (replicate entries none)) $
         made ! u8 (uint-copy 𝓤 H A W w8) (uint-lawful 𝓤 H A W w8) (uint-makes 𝓤 H A W w8) bytes 0 (vint w8 0) (refl, lit< tt) (λ wt-answer. assigns ! (rep ! bytes (lit ! tt)) (from ! (stop !)) (init ! 21 refl wt-answer) $ move ! (21 ∷ 0 ∷ []) $ array-row ! u8 bytes l₅ tt (replicate bytes 0) (arrayVal (replicate bytes (vint w8 0))) $
         -- the arguments. [answer's row; order's row; work's row; the locals; the tokens; what the parameters own]

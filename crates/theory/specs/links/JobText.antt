@@ -13,10 +13,10 @@ use Rattle.model.specs.Grid.{eastCount, northCount}
 use Rattle.model.specs.Job.{Net, Job, runs, entryCount}
 use Rattle.model.specs.Limits.{leastSide, mostSide, leastLayers, mostLayers, mostWeight, mostNets, mostText}
 use Rattle.model.specs.Text.{behind}
-use Rattle.model.specs.Read.{Place, Result, Reading, next, give, need, ifThere, optional, lettersLine, dirsLine, capacityLine, capacityLines, Sizes, netLine, pinsLine, edgesLine, netLines, nets, Lent, workingNeed, printNeed, printFits, jobIn, read}
+use Rattle.model.specs.Read.{Place, Result, Reading, next, give, need, ifThere, optional, lettersLine, dirsLine, ranged, capacityLine, capacityLines, Sizes, netLine, lowLine, pinsLine, edgesLine, netLines, nets, Lent, workingNeed, printNeed, printFits, jobIn, read}
 use Rattle.theory.specs.links.Chain.{Rows, no-more, row, Kind, opening, lineOf, Chain, done, reads, may, tests, ends, where-begun, run}
 use Rattle.theory.specs.links.Words.{leb-fails, and-fails}
-use Rattle.theory.specs.links.Kinds.{rangedKind, dirsKind, capacityKind, netKind, pinsKind, edgesKind, next-next, ranged-is, letters-is, capacity-is, net-is, pins-is, edges-is}
+use Rattle.theory.specs.links.Kinds.{rangedKind, dirsKind, lowKind, capacityKind, netKind, pinsKind, edgesKind, next-next, ranged-is, low-is, letters-is, capacity-is, net-is, pins-is, edges-is}
 
 -- the reading starts before the first line
 abbrev pub start : List ℕ → Place
@@ -24,18 +24,19 @@ start text = record { line = 0; rest = text }
 
 -- ---- the numbers of the lines: a line that a later request adds changes these alone
 
--- a line `dirs`, where it stands
-abbrev pub dirsLines : Option (List ℕ) → ℕ
-dirsLines none = 0
-dirsLines (some ds) = 1
+-- a line that may be left out, where it stands
+module _ {A : Type 0} where
+  abbrev pub optionLines : Option A → ℕ
+  optionLines none = 0
+  optionLines (some a) = 1
 
-pub dirs-few : (ds : Option (List ℕ)) → dirsLines ds ≤ 1
-dirs-few none = omega arith
-dirs-few (some ds) = omega arith
+  pub option-few : (o : Option A) → optionLines o ≤ 1
+  option-few none = omega arith
+  option-few (some a) = omega arith
 
 -- the line after which the working numbers are tested: "Check 9 follows line 4, and gives 4 as its line, where line 4 begins `dirs=`", and else `layers`
 abbrev pub stackLine : Option (List ℕ) → ℕ
-stackLine ds = 3 + dirsLines ds
+stackLine ds = 3 + optionLines ds
 
 -- the line of layer l's capacities, `east` with way 0 and `north` with way 1
 abbrev pub capacitiesAt : Option (List ℕ) → ℕ → ℕ → ℕ
@@ -45,9 +46,22 @@ capacitiesAt ds l way = stackLine ds + 2 + 2 * l + way
 abbrev pub headLines : Option (List ℕ) → ℕ → ℕ
 headLines ds K = stackLine ds + 4 + 2 * K
 
--- the lines through net i, counted from 1; the last of them is its `edges` line
-abbrev pub linesTo : Sizes → ℕ → ℕ
-linesTo z i = headLines (z .dirs) (z .layers) + 3 * i
+-- the lines of these nets: three or four each
+abbrev pub netsLines : List Net → ℕ
+netsLines [] = 0
+netsLines (n ∷ ns) = 3 + optionLines (n .low) + netsLines ns
+
+pub lines-few : (ns : List Net) → netsLines ns ≤ 4 * length ns
+lines-few [] = omega arith
+lines-few (n ∷ ns) = omega (arith, option-few (n .low), lines-few ns)
+
+pub lines-snoc : (ns : List Net) (n : Net) → netsLines (ns ++ (n ∷ [])) ≡ netsLines ns + (3 + optionLines (n .low))
+lines-snoc [] n = omega arith
+lines-snoc (m ∷ ns) n = omega (arith, lines-snoc ns n)
+
+-- the lines through the first nets, which are these; the last of them is the last one's `edges` line
+abbrev pub linesTo : Sizes → List Net → ℕ
+linesTo z ns = headLines (z .dirs) (z .layers) + netsLines ns
 
 -- ---- the lines in their order
 
@@ -60,14 +74,15 @@ module _ {A : Type 0} where
       reads (capacityKind "north" (northCount (z .width) (z .height)) (runs (z .dirs) 1 l)) (λ north.
       layersChain z (suc l) m (λ above. k ((east ++ north) ∷ above))))
 
-  -- "for each net `net`, `pins`, `edges`": m nets, from number i on
+  -- the lines `pins` and `edges` of a net, whose lowest wanted layer is told
+  abbrev pub treeChain : Sizes → Option ℕ → (Net → Chain A) → Chain A
+  treeChain z low k = reads (pinsKind z) (λ pins. reads (edgesKind z pins) (λ edges. k (record { low = low; pins = pins; edges = edges })))
+
+  -- "for each net `net`, `pins`, `edges`", and "a line `low` right after `net`" where it stands: m nets, from number i on
   abbrev pub netsChain : Sizes → ℕ → ℕ → (List Net → Chain A) → Chain A
   netsChain z i zero k = k []
   netsChain z i (suc m) k =
-      reads (netKind i) (λ u.
-      reads (pinsKind z) (λ pins.
-      reads (edgesKind z pins) (λ edges.
-      netsChain z (suc i) m (λ others. k (record { pins = pins; edges = edges } ∷ others)))))
+      reads (netKind i) (λ u. may (lowKind (z .layers)) none (λ low. treeChain z low (λ n. netsChain z (suc i) m (λ others. k (n ∷ others)))))
 
 -- "answer list or print buffer too short", for N nets and A entries
 abbrev pub RoomShort : Lent → ℕ → ℕ → Type 0
@@ -110,6 +125,10 @@ roomRow lent N job =
 abbrev pub endChain : Lent → ℕ → Job → Chain Job
 endChain lent N job = ends (tests (roomRow lent N job) (done job))
 
+-- a job of this head and these nets
+abbrev pub jobOf : Sizes → ℕ → ℕ → ℕ → List (List ℕ) → List Net → Job
+jobOf z a b g cs ns = record { width = z .width; height = z .height; layers = z .layers; dirs = z .dirs; alpha = a; beta = b; gamma = g; capacities = cs; nets = ns }
+
 -- the lines behind test 9
 abbrev pub bodyChain : Lent → Sizes → Chain Job
 bodyChain lent z =
@@ -119,9 +138,7 @@ bodyChain lent z =
     layersChain z 1 (z .layers) (λ cs.
     reads (rangedKind "nets" 0 mostNets) (λ N.
     tests (orderRow lent N)
-    (netsChain z 1 N (λ ns.
-    endChain lent N
-    (record { width = z .width; height = z .height; layers = z .layers; dirs = z .dirs; alpha = a; beta = b; gamma = g; capacities = cs; nets = ns }))))))))
+    (netsChain z 1 N (λ ns. endChain lent N (jobOf z a b g cs ns))))))))
 
 -- what follows `layers` and `dirs`
 abbrev pub stackChain : Lent → ℕ → ℕ → ℕ → Option (List ℕ) → Chain Job
@@ -172,17 +189,20 @@ module _ {A : Type 0} (z : Sizes) where
 
 module _ {A : Type 0} (z : Sizes) where
   nets-run : (i m : ℕ) (k : List Net → Chain A) (p : Place) → next (nets z i m p) (λ ns. run (k ns)) ≡ run (netsChain z i m k) p
-  unfolding netLines
+  unfolding netLines lowLine
   nets-run i zero k p = refl
   nets-run i (suc m) k p =
       next-next (netLines z i p) _ _
       ∙ next-next (netLine i p) _ _
       ∙ same-next (net-is i p) (λ u q.
-      next-next (pinsLine z q) _ _
-      ∙ same-next (pins-is z q) (λ pins r.
+      next-next (optional "low" (ranged "low" 1 (z .layers)) q) _ _
+      ∙ behind-same (optional "low" (ranged "low" 1 (z .layers)) q) (λ low o.
+      next-next (pinsLine z o) _ _
+      ∙ same-next (pins-is z o) (λ pins r.
       next-next (edgesLine z pins r) _ _
       ∙ same-next (edges-is z pins r) (λ edges s.
-      next-next (nets z (suc i) m s) _ _ ∙ nets-run (suc i) m (λ others. k (record { pins = pins; edges = edges } ∷ others)) s)))
+      next-next (nets z (suc i) m s) _ _ ∙ nets-run (suc i) m (λ others. k (record { low = low; pins = pins; edges = edges } ∷ others)) s)))
+      ∙ optional-run (lowKind (z .layers)) (ranged "low" 1 (z .layers)) (λ low. treeChain z low (λ n. netsChain z (suc i) m (λ others. k (n ∷ others)))) (low-is (z .layers)) q)
 
 job-run : (lent : Lent) (p : Place) → jobIn lent p ≡ run (jobChain lent) p
 unfolding jobIn dirsLine

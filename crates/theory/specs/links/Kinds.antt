@@ -71,6 +71,16 @@ dirsKind K = record {
   result = λ ds. some ds;
 }
 
+-- the line `low` of a net: 2, 3
+abbrev pub lowKind : ℕ → Kind ℕ (Option ℕ)
+lowKind K = record {
+  key = "low";
+  number = 2;
+  value = number;
+  rows = λ n. row 3 (leb 1 n && leb n K) (OutOfRange 1 K n) (λ h. range-fails 1 K n) no-more;
+  result = λ n. some n;
+}
+
 -- a line of capacities: 2, "list length" too, 3, and "12, on a capacity line, after 3, a nonzero capacity on a layer that runs the other way"
 abbrev pub capacityKind : String → ℕ → Bool → Kind (List ℕ) (List ℕ)
 capacityKind key size along = record {
@@ -149,6 +159,20 @@ need-last n false p = refl
 pub ranged-is : (key : String) (low high : ℕ) (p : Place) → ranged key low high p ≡ lineOf (rangedKind key low high) p
 unfolding ranged lineOf
 ranged-is key low high p = next-next (line 2 key p) (λ v. form 2 (number v)) (λ n. λ q. next (need 3 (leb low n && leb n high) q) (λ u. give n))
+
+pub low-is : (K : ℕ) (p : Place) → next (ranged "low" 1 K p) (λ n. give (some n)) ≡ lineOf (lowKind K) p
+unfolding lineOf
+low-is K p =
+    (λ i. next (ranged-is "low" 1 K p i) (λ n. give (some n)))
+    ∙ next-next (line 2 "low" p) (λ v q. next (form 2 (number v) q) (λ n r. next (need 3 (leb 1 n && leb n K) r) (λ u. give n))) (λ n. give (some n))
+    ∙ (λ i. next (line 2 "low" p) (λ v q. inner v q i))
+  where
+    inner : (v : List ℕ) (q : Place)
+        → next (next (form 2 (number v) q) (λ n r. next (need 3 (leb 1 n && leb n K) r) (λ u. give n))) (λ n. give (some n))
+        ≡ next (form 2 (number v) q) (λ n r. next (need 3 (leb 1 n && leb n K) r) (λ u. give (some n)))
+    inner v q =
+        next-next (form 2 (number v) q) (λ n r. next (need 3 (leb 1 n && leb n K) r) (λ u. give n)) (λ n. give (some n))
+        ∙ (λ i. next (form 2 (number v) q) (λ n r. next-next (need 3 (leb 1 n && leb n K) r) (λ u. give n) (λ m. give (some m)) i))
 
 pub letters-is : (K : ℕ) (p : Place) → next (lettersLine K p) (λ ds. give (some ds)) ≡ lineOf (dirsKind K) p
 unfolding lineOf

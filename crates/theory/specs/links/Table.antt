@@ -1,7 +1,7 @@
 -- The table of refusals of documents 01 and 02, row by row and in its words: a text is refused with a number and a line exactly where the row of this number fits this
 -- line. Every line before it is then in order, and no row that is tested earlier fits the line.
 -- Assumes nothing.
-use mathlib.Core.Path.{_≡_, refl, sym, _∙_, subst}
+use mathlib.Core.Path.{_≡_, refl, sym, ap, _∙_, subst}
 use mathlib.Core.List.{List, [], _∷_, _++_}
 use mathlib.Core.Bool.{Bool, false}
 use mathlib.Core.Option.{Option, none, some}
@@ -18,8 +18,8 @@ use Rattle.model.specs.Text.{behind}
 use Rattle.theory.specs.congestion.Sums.{same-cases}
 use Rattle.theory.specs.links.Chain.{First, Kind, opening, Stands, WrongForm, WrongLine, form-wrong, row-wrong, Chain, done, reads, may, tests, ends, refused-found, same-refusal, AtFault, Comes, begun, past-absent, comes-refused, Decided, then-line, then-there, then-tests, then-end, decided-refused, decided-found}
 use Rattle.theory.specs.links.Words.{Some, PinTwice, EdgeTwice, HasRing, NotReached}
-use Rattle.theory.specs.links.Kinds.{OutOfRange, CapacitiesOut, Nonzero, PinsOut, EdgesOut, NoLayer, pinsOf, edgesOf, rangedKind, dirsKind, capacityKind, netKind, pinsKind, edgesKind}
-use Rattle.theory.specs.links.JobText.{one, start, dirsLines, stackLine, capacitiesAt, headLines, linesTo, layersChain, netsChain, bodyChain, RoomShort, neededBy, workingRow, orderRow, roomRow, textChain, read-is}
+use Rattle.theory.specs.links.Kinds.{OutOfRange, CapacitiesOut, Nonzero, PinsOut, EdgesOut, NoLayer, pinsOf, edgesOf, rangedKind, dirsKind, lowKind, capacityKind, netKind, pinsKind, edgesKind}
+use Rattle.theory.specs.links.JobText.{one, start, optionLines, stackLine, capacitiesAt, headLines, linesTo, layersChain, treeChain, netsChain, bodyChain, endChain, jobOf, lines-snoc, RoomShort, neededBy, workingRow, orderRow, roomRow, textChain, read-is}
 
 -- ---- tables
 
@@ -54,6 +54,18 @@ row-below [] n l w = nothing w
 row-below (r ∷ rs) zero l w = omega arith
 row-below (r ∷ rs) (suc n) l w = omega (arith, row-below rs n l w)
 
+append-none : (ns : List Net) → ns ++ [] ≡ ns
+append-none [] = refl
+append-none (n ∷ ns) = ap {B = List Net} (λ r. n ∷ r) (append-none ns)
+
+append-snoc : (ns : List Net) (n : Net) (ms : List Net) → ns ++ (n ∷ ms) ≡ (ns ++ (n ∷ [])) ++ ms
+append-snoc [] n ms = refl
+append-snoc (m ∷ ns) n ms = ap {B = List Net} (λ r. m ∷ r) (append-snoc ns n ms)
+
+length-snoc : (ns : List Net) (n : Net) → length (ns ++ (n ∷ [])) ≡ suc (length ns)
+length-snoc [] n = refl
+length-snoc (m ∷ ns) n = ap suc (length-snoc ns n)
+
 module _ (lent : Lent) (text : List ℕ) where
   -- the reading comes to the step t at the place q, with every line before in order
   abbrev pub At : Chain Job → Place → Type 1
@@ -68,15 +80,15 @@ module _ (lent : Lent) (text : List ℕ) where
     pub stands : Stands k before b after
     pub line : l ≡ suc (before .line)
 
-  -- line l is a line `dirs`, and has these letters; every line before it is in order
-  pub record LettersAt (K : ℕ) (ds : List ℕ) (l : ℕ) : Type 1 where
-    pub others : Option (List ℕ) → Chain Job
+  -- the same of a line that may be left out, and is not
+  pub record ThereAt {B C : Type 0} (k : Kind B (Option C)) (b : B) (l : ℕ) : Type 1 where
+    pub others : Option C → Chain Job
     pub before : Place
     pub after : Place
     pub value : List ℕ
-    pub comes : At (may (dirsKind K) none others) before
-    pub there : behind (opening (dirsKind K)) (before .rest) ≡ some value
-    pub stands : Stands (dirsKind K) before ds after
+    pub comes : At (may k none others) before
+    pub there : behind (opening k) (before .rest) ≡ some value
+    pub stands : Stands k before b after
     pub line : l ≡ suc (before .line)
 
   -- z is what `width`, `height`, `layers` and `dirs` say, and N the value of `nets`: the lines up to there are in order, and give it
@@ -86,13 +98,37 @@ module _ (lent : Lent) (text : List ℕ) where
   abbrev pub Nets : ℕ → Type 1
   Nets N = (s : Chain Job) × (q : Place) × At (tests (orderRow lent N) s) q
 
-  -- z is what the head says, and net i one of the N nets
-  pub record OfNet (z : Sizes) (i : ℕ) : Type 1 where
-    pub N : ℕ
+  -- what follows the nets: `earlier` are read, and others to be put behind them
+  abbrev ended : Sizes → ℕ → ℕ → ℕ → List (List ℕ) → ℕ → List Net → List Net → Chain Job
+  ended z a b g cs N earlier others = endChain lent N (jobOf z a b g cs (earlier ++ others))
+
+  -- z is what the head says, and there are more than these nets: the lines of `earlier` are in order, and those of the next one follow
+  pub record OfNet (z : Sizes) (earlier : List Net) : Type 1 where
+    pub alpha : ℕ
+    pub beta : ℕ
+    pub gamma : ℕ
+    pub capacities : List (List ℕ)
+    pub left : ℕ
+    pub place : Place
     pub stack : Stack z
-    pub nets : Nets N
-    pub from : 1 ≤ i
-    pub upto : i ≤ N
+    pub nets : Nets (length earlier + suc left)
+    pub comes : At (netsChain z (suc (length earlier)) (suc left) (ended z alpha beta gamma capacities (length earlier + suc left) earlier)) place
+
+  -- and of the next one the lines up to `pins`: `low` is its lowest wanted layer, where it has one
+  pub record OfTree (z : Sizes) (earlier : List Net) (low : Option ℕ) : Type 1 where
+    pub net : OfNet z earlier
+    pub place : Place
+    pub comes : At (treeChain z low (λ n. netsChain z (suc (suc (length earlier))) (net .left) (λ others. ended z (net .alpha) (net .beta) (net .gamma) (net .capacities) (length earlier + suc (net .left)) earlier (n ∷ others)))) place
+
+  -- its lines `net`, `pins` and `edges`
+  abbrev pub netAt : Sizes → List Net → ℕ
+  netAt z earlier = linesTo z earlier + 1
+
+  abbrev pub pinsAt : Sizes → List Net → Option ℕ → ℕ
+  pinsAt z earlier low = linesTo z earlier + 2 + optionLines low
+
+  abbrev pub edgesAt : Sizes → List Net → Option ℕ → ℕ
+  edgesAt z earlier low = linesTo z earlier + 3 + optionLines low
 
   -- ---- the rows: why each number is returned, with the line l
 
@@ -107,39 +143,41 @@ module _ (lent : Lent) (text : List ℕ) where
     wrong-there : {B C : Type 0} (k : Kind B C) (c : C) (f : C → Chain Job) (q : Place) (v : List ℕ) → At (may k c f) q → behind (opening k) (q .rest) ≡ some v
         → k .number ≡ 2 → WrongForm k q → l ≡ suc (q .line) → WrongAt l
     wrong-length : (key : String) (size : ℕ) (along : Bool) (cs : List ℕ) → LineAt (capacityKind key size along) cs l → length cs ≢ size → WrongAt l
-    wrong-letters : (K : ℕ) (ds : List ℕ) → LettersAt K ds l → length ds ≢ K → WrongAt l
+    wrong-letters : (K : ℕ) (ds : List ℕ) → ThereAt (dirsKind K) ds l → length ds ≢ K → WrongAt l
     text-after : (s : Chain Job) (q : Place) → At (ends s) q → (q .rest ≡ [] → ⊥) → l ≡ suc (q .line) → WrongAt l
 
   -- "3, the line: a number outside its range, an edge leaving the grid"
   pub data RangeAt (l : ℕ) : Type 1 where
     number-out : (key : String) (low high m : ℕ) → LineAt (rangedKind key low high) m l → OutOfRange low high m → RangeAt l
+    low-out : (K m : ℕ) → ThereAt (lowKind K) m l → OutOfRange 1 K m → RangeAt l
     capacity-out : (key : String) (size : ℕ) (along : Bool) (cs : List ℕ) → LineAt (capacityKind key size along) cs l → length cs ≡ size → CapacitiesOut cs → RangeAt l
     pin-out : (z : Sizes) (ps : List Triple) → LineAt (pinsKind z) ps l → PinsOut z ps → RangeAt l
     edge-out : (z : Sizes) (pins : List Pin) (es : List Triple) → LineAt (edgesKind z pins) es l → EdgesOut z es → RangeAt l
 
-  -- "4, the line: net number out of turn": the `net` line of net i is the first of its three
+  -- "4, the line: net number out of turn"
   pub data TurnAt (l : ℕ) : Type 1 where
-    out-of-turn : (z : Sizes) (i m : ℕ) → OfNet z i → LineAt (netKind i) m (linesTo z i - 2) → m ≢ i → l ≡ linesTo z i - 2 → TurnAt l
+    out-of-turn : (z : Sizes) (earlier : List Net) (m : ℕ) → OfNet z earlier → LineAt (netKind (suc (length earlier))) m (netAt z earlier) → m ≢ suc (length earlier)
+        → l ≡ netAt z earlier → TurnAt l
 
-  -- "5, the line: same tile and layer twice on `pins`": that of net i is the second of its three
+  -- "5, the line: same tile and layer twice on `pins`"
   pub data PinTwiceAt (l : ℕ) : Type 1 where
-    pin-twice : (z : Sizes) (i : ℕ) (ps : List Triple) → OfNet z i → LineAt (pinsKind z) ps (linesTo z i - 1) → (PinsOut z ps → ⊥)
-        → PinTwice (pinsOf z ps) → l ≡ linesTo z i - 1 → PinTwiceAt l
+    pin-twice : (z : Sizes) (earlier : List Net) (low : Option ℕ) (ps : List Triple) → OfTree z earlier low → LineAt (pinsKind z) ps (pinsAt z earlier low) → (PinsOut z ps → ⊥)
+        → PinTwice (pinsOf z ps) → l ≡ pinsAt z earlier low → PinTwiceAt l
 
-  -- "6, the line: same edge twice on `edges`": that of net i is the third of its three
+  -- "6, the line: same edge twice on `edges`"
   pub data EdgeTwiceAt (l : ℕ) : Type 1 where
-    edge-twice : (z : Sizes) (i : ℕ) (pins : List Pin) (es : List Triple) → OfNet z i → LineAt (edgesKind z pins) es (linesTo z i) → (EdgesOut z es → ⊥)
-        → EdgeTwice (edgesOf z es) → l ≡ linesTo z i → EdgeTwiceAt l
+    edge-twice : (z : Sizes) (earlier : List Net) (low : Option ℕ) (pins : List Pin) (es : List Triple) → OfTree z earlier low → LineAt (edgesKind z pins) es (edgesAt z earlier low) → (EdgesOut z es → ⊥)
+        → EdgeTwice (edgesOf z es) → l ≡ edgesAt z earlier low → EdgeTwiceAt l
 
   -- "7, the `edges` line: the net's edges contain a ring"
   pub data RingAt (l : ℕ) : Type 1 where
-    has-ring : (z : Sizes) (i : ℕ) (pins : List Pin) (es : List Triple) → OfNet z i → LineAt (edgesKind z pins) es (linesTo z i) → (EdgesOut z es → ⊥)
-        → (EdgeTwice (edgesOf z es) → ⊥) → HasRing (z .width) (z .height) (edgesOf z es) → l ≡ linesTo z i → RingAt l
+    has-ring : (z : Sizes) (earlier : List Net) (low : Option ℕ) (pins : List Pin) (es : List Triple) → OfTree z earlier low → LineAt (edgesKind z pins) es (edgesAt z earlier low) → (EdgesOut z es → ⊥)
+        → (EdgeTwice (edgesOf z es) → ⊥) → HasRing (z .width) (z .height) (edgesOf z es) → l ≡ edgesAt z earlier low → RingAt l
 
   -- "8, the `edges` line: no ring, but a pin or edge not reached from the first pin's tile along the edges"
   pub data ReachAt (l : ℕ) : Type 1 where
-    not-reached : (z : Sizes) (i : ℕ) (pins : List Pin) (es : List Triple) → OfNet z i → LineAt (edgesKind z pins) es (linesTo z i) → (EdgesOut z es → ⊥)
-        → (EdgeTwice (edgesOf z es) → ⊥) → (HasRing (z .width) (z .height) (edgesOf z es) → ⊥) → NotReached (z .width) (z .height) pins (edgesOf z es) → l ≡ linesTo z i → ReachAt l
+    not-reached : (z : Sizes) (earlier : List Net) (low : Option ℕ) (pins : List Pin) (es : List Triple) → OfTree z earlier low → LineAt (edgesKind z pins) es (edgesAt z earlier low) → (EdgesOut z es → ⊥)
+        → (EdgeTwice (edgesOf z es) → ⊥) → (HasRing (z .width) (z .height) (edgesOf z es) → ⊥) → NotReached (z .width) (z .height) pins (edgesOf z es) → l ≡ edgesAt z earlier low → ReachAt l
 
   -- "9, 3: fewer working numbers than needed", "right after line 3": the line read last is line 3, and line 4 where it begins `dirs=`
   pub data WorkingAt (l : ℕ) : Type 1 where
@@ -154,7 +192,7 @@ module _ (lent : Lent) (text : List ℕ) where
   -- "11, the last line: answer list or print buffer too short", "after the whole text", whose last line is that of the last net
   pub data RoomAt (l : ℕ) : Type 1 where
     room-short : (z : Sizes) (N : ℕ) (j : Job) (s : Chain Job) (q : Place) → Stack z → Nets N → At (tests (roomRow lent N j) s) q → RoomShort lent N (entryCount j)
-        → q .line ≡ linesTo z N → l ≡ linesTo z N → RoomAt l
+        → q .line ≡ linesTo z (j .nets) → l ≡ linesTo z (j .nets) → RoomAt l
 
   -- "12, on a capacity line, after 3, a nonzero capacity on a layer that runs the other way": the line of layer m, `east` with way 0 and `north` with way 1
   pub data ClosedAt (l : ℕ) : Type 1 where
@@ -163,9 +201,9 @@ module _ (lent : Lent) (text : List ℕ) where
 
   -- "13, on an `edges` line, after 8 and before 11, an edge whose direction has no layer"
   pub data NoLayerAt (l : ℕ) : Type 1 where
-    no-layer : (z : Sizes) (i : ℕ) (pins : List Pin) (es : List Triple) → OfNet z i → LineAt (edgesKind z pins) es (linesTo z i) → (EdgesOut z es → ⊥)
+    no-layer : (z : Sizes) (earlier : List Net) (low : Option ℕ) (pins : List Pin) (es : List Triple) → OfTree z earlier low → LineAt (edgesKind z pins) es (edgesAt z earlier low) → (EdgesOut z es → ⊥)
         → (EdgeTwice (edgesOf z es) → ⊥) → (HasRing (z .width) (z .height) (edgesOf z es) → ⊥) → (NotReached (z .width) (z .height) pins (edgesOf z es) → ⊥)
-        → Some (NoLayer z) (edgesOf z es) → l ≡ linesTo z i → NoLayerAt l
+        → Some (NoLayer z) (edgesOf z es) → l ≡ edgesAt z earlier low → NoLayerAt l
 
   -- the table: the rows of the numbers 1 to 13
   abbrev pub table : List (ℕ → Type 1)
@@ -185,6 +223,9 @@ module _ (lent : Lent) (text : List ℕ) where
   by-line : {B C : Type 0} {k : Kind B C} {b : B} (n l : ℕ) → LineAt k b l → First (k .rows b) n → read lent text ≡ refused n l
   by-line {b = b} n l d f = by n l (d .comes) (row-wrong b (d .after) (d .stands) f, d .line)
 
+  by-there : {B C : Type 0} {k : Kind B (Option C)} {b : B} (n l : ℕ) → ThereAt k b l → First (k .rows b) n → read lent text ≡ refused n l
+  by-there {b = b} n l d f = by n l (d .comes) (d .value, d .there, row-wrong b (d .after) (d .stands) f, d .line)
+
   abbrev Refused : ℕ → ℕ → Type 0
   Refused n l = read lent text ≡ refused n l
 
@@ -198,29 +239,30 @@ module _ (lent : Lent) (text : List ℕ) where
   wrong-refused l (wrong-form k f q a m w z) = by 2 l a (form-wrong w (sym m), z)
   wrong-refused l (wrong-there k c f q v a e m w z) = by 2 l a (v, e, form-wrong w (sym m), z)
   wrong-refused l (wrong-length key size along cs d w) = by-line 2 l d (inl (w, refl))
-  wrong-refused l (wrong-letters K ds d w) = by 2 l (d .comes) (d .value, d .there, row-wrong ds (d .after) (d .stands) (inl (w, refl)), d .line)
+  wrong-refused l (wrong-letters K ds d w) = by-there 2 l d (inl (w, refl))
   wrong-refused l (text-after s q a h z) = by 2 l a (h, refl, z)
 
   range-refused : (l : ℕ) → RangeAt l → Refused 3 l
   range-refused l (number-out key low high m d w) = by-line 3 l d (inl (w, refl))
+  range-refused l (low-out K m d w) = by-there 3 l d (inl (w, refl))
   range-refused l (capacity-out key size along cs d u w) = by-line 3 l d (inr (λ h. h u, inl (w, refl)))
   range-refused l (pin-out z ps d w) = by-line 3 l d (inl (w, refl))
   range-refused l (edge-out z pins es d w) = by-line 3 l d (inl (w, refl))
 
   turn-refused : (l : ℕ) → TurnAt l → Refused 4 l
-  turn-refused l (out-of-turn z i m o d w y) = on-line 4 l y (by-line 4 (linesTo z i - 2) d (inl (w, refl)))
+  turn-refused l (out-of-turn z earlier m o d w y) = on-line 4 l y (by-line 4 (netAt z earlier) d (inl (w, refl)))
 
   pin-refused : (l : ℕ) → PinTwiceAt l → Refused 5 l
-  pin-refused l (pin-twice z i ps o d u w y) = on-line 5 l y (by-line 5 (linesTo z i - 1) d (inr (u, inl (w, refl))))
+  pin-refused l (pin-twice z earlier low ps o d u w y) = on-line 5 l y (by-line 5 (pinsAt z earlier low) d (inr (u, inl (w, refl))))
 
   edge-refused : (l : ℕ) → EdgeTwiceAt l → Refused 6 l
-  edge-refused l (edge-twice z i pins es o d u w y) = on-line 6 l y (by-line 6 (linesTo z i) d (inr (u, inl (w, refl))))
+  edge-refused l (edge-twice z earlier low pins es o d u w y) = on-line 6 l y (by-line 6 (edgesAt z earlier low) d (inr (u, inl (w, refl))))
 
   ring-refused : (l : ℕ) → RingAt l → Refused 7 l
-  ring-refused l (has-ring z i pins es o d u v w y) = on-line 7 l y (by-line 7 (linesTo z i) d (inr (u, inr (v, inl (w, refl)))))
+  ring-refused l (has-ring z earlier low pins es o d u v w y) = on-line 7 l y (by-line 7 (edgesAt z earlier low) d (inr (u, inr (v, inl (w, refl)))))
 
   reach-refused : (l : ℕ) → ReachAt l → Refused 8 l
-  reach-refused l (not-reached z i pins es o d u v x w y) = on-line 8 l y (by-line 8 (linesTo z i) d (inr (u, inr (v, inr (x, inl (w, refl))))))
+  reach-refused l (not-reached z earlier low pins es o d u v x w y) = on-line 8 l y (by-line 8 (edgesAt z earlier low) d (inr (u, inr (v, inr (x, inl (w, refl))))))
 
   working-refused : (l : ℕ) → WorkingAt l → Refused 9 l
   working-refused l (working-short z q a w y x) = by 9 l a (inl (w, refl), x ∙ sym y)
@@ -235,8 +277,8 @@ module _ (lent : Lent) (text : List ℕ) where
   closed-refused l (closed-layer z key size m way cs k d u v e w y) = by-line 12 l d (inr (λ h. h u, inr (v, inl ((e, w), refl))))
 
   no-layer-refused : (l : ℕ) → NoLayerAt l → Refused 13 l
-  no-layer-refused l (no-layer z i pins es o d u v x y w a) =
-      on-line 13 l a (by-line 13 (linesTo z i) d (inr (u, inr (v, inr (x, inr (y, inl (w, refl)))))))
+  no-layer-refused l (no-layer z earlier low pins es o d u v x y w a) =
+      on-line 13 l a (by-line 13 (edgesAt z earlier low) d (inr (u, inr (v, inr (x, inr (y, inl (w, refl)))))))
 
   table-refused : EachRow Refused table 1
   table-refused =
@@ -291,52 +333,69 @@ module _ (lent : Lent) (text : List ℕ) where
       told n cs d (inr (u, inr (v, inl (w, e)))) = because 12 n (suc (q .line)) e (closed-layer z key size m way cs k d (long cs u) v (w .0) (w .1) y)
       told n cs d (inr (u, inr (v, inr (x, w)))) = absurd w
 
-  -- the line `dirs`, where it stands
-  dirs-on : (K : ℕ) {f : Option (List ℕ) → Chain Job} {q : Place} → At (may (dirsKind K) none f) q
-      → ((ds : Option (List ℕ)) (r : Place) → r .line ≡ q .line + dirsLines ds → At (f ds) r → End) → End
-  dirs-on K {f} {q} a g = go (behind (opening (dirsKind K)) (q .rest)) refl
+  -- a line that may be left out: the reading goes on behind it, where it stands
+  may-on : {B C : Type 0} {k : Kind B (Option C)} {f : Option C → Chain Job} {q : Place} → k .number ≡ 2 → At (may k none f) q
+      → ((n : ℕ) (b : B) → ThereAt k b (suc (q .line)) → First (k .rows b) n → Why n (suc (q .line)))
+      → (At (f none) q → End) → ((b : B) (r : Place) → r .line ≡ suc (q .line) → At (f (k .result b)) r → End) → End
+  may-on {B} {C} {k} {f} {q} two a h absent there = go (behind (opening k) (q .rest)) refl
     where
-      go : (o : Option (List ℕ)) → behind (opening (dirsKind K)) (q .rest) ≡ o → End
-      go none e = g none q (omega arith) (past-absent a e)
+      go : (o : Option (List ℕ)) → behind (opening k) (q .rest) ≡ o → End
+      go none e = absent (past-absent a e)
       go (some v) e = then-there (textChain lent text) (start text) Why a e told there
         where
-          told : (n : ℕ) → WrongLine (dirsKind K) q n → Why n (suc (q .line))
-          told n (form-wrong w h) = because 2 n (suc (q .line)) h (wrong-there (dirsKind K) none f q v a e refl w refl)
-          told n (row-wrong ds r s (inl (w, h))) =
-              because 2 n (suc (q .line)) h (wrong-letters K ds (record { others = f; before = q; after = r; value = v; comes = a; there = e; stands = s; line = refl }) w)
-          told n (row-wrong ds r s (inr (u, w))) = absurd w
+          told : (n : ℕ) → WrongLine k q n → Why n (suc (q .line))
+          told n (form-wrong w m) = because 2 n (suc (q .line)) (m ∙ two) (wrong-there k none f q v a e two w refl)
+          told n (row-wrong b r s w) = h n b (record { others = f; before = q; after = r; value = v; comes = a; there = e; stands = s; line = refl }) w
 
-          there : (ds : List ℕ) (r : Place) → r .line ≡ suc (q .line) → At (f (some ds)) r → End
-          there ds r h = g (some ds) r (omega arith)
-
-  net-on : (z : Sizes) (i : ℕ) {f : Unit {0} → Chain Job} {q : Place} → OfNet z i → suc (q .line) ≡ linesTo z i - 2 → At (reads (netKind i) f) q → Goes f q → End
-  net-on z i {q = q} o y a = reads-on refl a told
+  dirs-on : (K : ℕ) {f : Option (List ℕ) → Chain Job} {q : Place} → At (may (dirsKind K) none f) q
+      → ((ds : Option (List ℕ)) (r : Place) → r .line ≡ q .line + optionLines ds → At (f ds) r → End) → End
+  dirs-on K {f} {q} a g = may-on refl a told (g none q (omega arith)) (λ ds r h. g (some ds) r (omega arith))
     where
-      told : (n m : ℕ) → LineAt (netKind i) m (suc (q .line)) → First (netKind i .rows m) n → Why n (suc (q .line))
-      told n m d (inl (w, e)) = because 4 n (suc (q .line)) e (out-of-turn z i m o (subst (LineAt (netKind i) m) y d) w y)
+      told : (n : ℕ) (ds : List ℕ) → ThereAt (dirsKind K) ds (suc (q .line)) → First (dirsKind K .rows ds) n → Why n (suc (q .line))
+      told n ds d (inl (w, e)) = because 2 n (suc (q .line)) e (wrong-letters K ds d w)
+      told n ds d (inr (u, w)) = absurd w
+
+  low-on : (K : ℕ) {f : Option ℕ → Chain Job} {q : Place} → At (may (lowKind K) none f) q
+      → ((low : Option ℕ) (r : Place) → r .line ≡ q .line + optionLines low → At (f low) r → End) → End
+  low-on K {f} {q} a g = may-on refl a told (g none q (omega arith)) (λ m r h. g (some m) r (omega arith))
+    where
+      told : (n m : ℕ) → ThereAt (lowKind K) m (suc (q .line)) → First (lowKind K .rows m) n → Why n (suc (q .line))
+      told n m d (inl (w, e)) = because 3 n (suc (q .line)) e (low-out K m d w)
       told n m d (inr (u, w)) = absurd w
 
-  pins-on : (z : Sizes) (i : ℕ) {f : List Pin → Chain Job} {q : Place} → OfNet z i → suc (q .line) ≡ linesTo z i - 1 → At (reads (pinsKind z) f) q → Goes f q → End
-  pins-on z i {q = q} o y a = reads-on refl a told
+  net-on : (z : Sizes) (earlier : List Net) {f : Unit {0} → Chain Job} {q : Place} → OfNet z earlier → suc (q .line) ≡ netAt z earlier
+      → At (reads (netKind (suc (length earlier))) f) q → Goes f q → End
+  net-on z earlier {q = q} o y a = reads-on refl a told
+    where
+      i : ℕ
+      i = suc (length earlier)
+
+      told : (n m : ℕ) → LineAt (netKind i) m (suc (q .line)) → First (netKind i .rows m) n → Why n (suc (q .line))
+      told n m d (inl (w, e)) = because 4 n (suc (q .line)) e (out-of-turn z earlier m o (subst (LineAt (netKind i) m) y d) w y)
+      told n m d (inr (u, w)) = absurd w
+
+  pins-on : (z : Sizes) (earlier : List Net) (low : Option ℕ) {f : List Pin → Chain Job} {q : Place} → OfTree z earlier low → suc (q .line) ≡ pinsAt z earlier low
+      → At (reads (pinsKind z) f) q → Goes f q → End
+  pins-on z earlier low {q = q} o y a = reads-on refl a told
     where
       told : (n : ℕ) (ps : List Triple) → LineAt (pinsKind z) ps (suc (q .line)) → First (pinsKind z .rows ps) n → Why n (suc (q .line))
       told n ps d (inl (w, e)) = because 3 n (suc (q .line)) e (pin-out z ps d w)
-      told n ps d (inr (u, inl (w, e))) = because 5 n (suc (q .line)) e (pin-twice z i ps o (subst (LineAt (pinsKind z) ps) y d) u w y)
+      told n ps d (inr (u, inl (w, e))) = because 5 n (suc (q .line)) e (pin-twice z earlier low ps o (subst (LineAt (pinsKind z) ps) y d) u w y)
       told n ps d (inr (u, inr (v, w))) = absurd w
 
-  edges-on : (z : Sizes) (i : ℕ) (pins : List Pin) {f : List ℕ → Chain Job} {q : Place} → OfNet z i → suc (q .line) ≡ linesTo z i
-      → At (reads (edgesKind z pins) f) q → Goes f q → End
-  edges-on z i pins {q = q} o y a = reads-on refl a told
+  edges-on : (z : Sizes) (earlier : List Net) (low : Option ℕ) (pins : List Pin) {f : List ℕ → Chain Job} {q : Place} → OfTree z earlier low
+      → suc (q .line) ≡ edgesAt z earlier low → At (reads (edgesKind z pins) f) q → Goes f q → End
+  edges-on z earlier low pins {q = q} o y a = reads-on refl a told
     where
-      here : (es : List Triple) → LineAt (edgesKind z pins) es (suc (q .line)) → LineAt (edgesKind z pins) es (linesTo z i)
+      here : (es : List Triple) → LineAt (edgesKind z pins) es (suc (q .line)) → LineAt (edgesKind z pins) es (edgesAt z earlier low)
       here es = subst (LineAt (edgesKind z pins) es) y
 
       told : (n : ℕ) (es : List Triple) → LineAt (edgesKind z pins) es (suc (q .line)) → First (edgesKind z pins .rows es) n → Why n (suc (q .line))
       told n es d (inl (w, e)) = because 3 n (suc (q .line)) e (edge-out z pins es d w)
-      told n es d (inr (u, inl (w, e))) = because 6 n (suc (q .line)) e (edge-twice z i pins es o (here es d) u w y)
-      told n es d (inr (u, inr (v, inl (w, e)))) = because 7 n (suc (q .line)) e (has-ring z i pins es o (here es d) u v w y)
-      told n es d (inr (u, inr (v, inr (x, inl (w, e))))) = because 8 n (suc (q .line)) e (not-reached z i pins es o (here es d) u v x w y)
-      told n es d (inr (u, inr (v, inr (x, inr (t, inl (w, e)))))) = because 13 n (suc (q .line)) e (no-layer z i pins es o (here es d) u v x t w y)
+      told n es d (inr (u, inl (w, e))) = because 6 n (suc (q .line)) e (edge-twice z earlier low pins es o (here es d) u w y)
+      told n es d (inr (u, inr (v, inl (w, e)))) = because 7 n (suc (q .line)) e (has-ring z earlier low pins es o (here es d) u v w y)
+      told n es d (inr (u, inr (v, inr (x, inl (w, e))))) = because 8 n (suc (q .line)) e (not-reached z earlier low pins es o (here es d) u v x w y)
+      told n es d (inr (u, inr (v, inr (x, inr (t, inl (w, e)))))) = because 13 n (suc (q .line)) e (no-layer z earlier low pins es o (here es d) u v x t w y)
       told n es d (inr (u, inr (v, inr (x, inr (t, inr (b, w)))))) = absurd w
 
   -- two lines for each layer: m of them, from layer l on
@@ -348,19 +407,47 @@ module _ (lent : Lent) (text : List ℕ) where
       capacity-on z l 1 "north" (northCount (z .width) (z .height)) st (omega arith) a1 (λ north q2 e2 a2.
       layers-on z st (suc l) m (omega arith) a2 (λ above r e. g ((east ++ north) ∷ above) r (omega arith))))
 
-  -- three lines for each net: m of them, from number i on
-  module _ (z : Sizes) (N : ℕ) (stack : Stack z) (nets : Nets N) where
-    nets-on : (i m : ℕ) {k : List Net → Chain Job} {q : Place} → At (netsChain z i m k) q → 1 ≤ i → i + m ≡ suc N → q .line + 3 ≡ linesTo z i
-        → ((ns : List Net) (r : Place) → r .line ≡ linesTo z N → At (k ns) r → End) → End
-    nets-on i zero {q = q} a low high e g = g [] q (omega arith) a
-    nets-on i (suc m) {q = q} a low high e g =
-        net-on z i of (omega arith) a (λ u q1 e1 a1.
-        pins-on z i of (omega arith) a1 (λ pins q2 e2 a2.
-        edges-on z i pins of (omega arith) a2 (λ edges q3 e3 a3.
-        nets-on (suc i) m a3 (omega arith) (omega arith) (omega arith) (λ others. g (record { pins = pins; edges = edges } ∷ others)))))
+  -- the nets: `earlier` are read, and `left` others follow
+  module _ (z : Sizes) (a b g : ℕ) (cs : List (List ℕ)) (N : ℕ) (stack : Stack z) (nets : Nets N) where
+    nets-on : (earlier : List Net) (left : ℕ) {q : Place} → length earlier + left ≡ N → At (netsChain z (suc (length earlier)) left (ended z a b g cs N earlier)) q
+        → q .line ≡ linesTo z earlier → ((ns : List Net) (r : Place) → r .line ≡ linesTo z ns → At (endChain lent N (jobOf z a b g cs ns)) r → End) → End
+    nets-on earlier zero {q} n at e k =
+        let whole : earlier ++ [] ≡ earlier = append-none earlier in
+        k earlier q e (subst (λ (ns : List Net). At (endChain lent N (jobOf z a b g cs ns)) q) whole at)
+    nets-on earlier (suc left) {q} n at e k =
+        net-on z earlier net (omega arith) at (λ u q1 e1 a1.
+        low-on (z .layers) a1 (λ low q2 e2 a2.
+        pins-on z earlier low (tree low q2 a2) (omega arith) a2 (λ pins q3 e3 a3.
+        edges-on z earlier low pins (tree low q2 a2) (omega arith) a3 (λ edges q4 e4 a4.
+        nets-on (earlier ++ (record { low = low; pins = pins; edges = edges } ∷ [])) left
+        (omega (arith, length-snoc earlier (record { low = low; pins = pins; edges = edges })))
+        (further (record { low = low; pins = pins; edges = edges }) q4 a4)
+        (omega (arith, lines-snoc earlier (record { low = low; pins = pins; edges = edges }))) k))))
       where
-        of : OfNet z i
-        of = record { N = N; stack = stack; nets = nets; from = low; upto = omega arith }
+        net : OfNet z earlier
+        net = record {
+          alpha = a;
+          beta = b;
+          gamma = g;
+          capacities = cs;
+          left = left;
+          place = q;
+          stack = stack;
+          nets = subst Nets (sym n) nets;
+          comes = subst (λ (m : ℕ). At (netsChain z (suc (length earlier)) (suc left) (ended z a b g cs m earlier)) q) (sym n) at;
+        }
+
+        rest : ℕ → Net → Chain Job
+        rest m x = netsChain z (suc (suc (length earlier))) left (λ others. ended z a b g cs m earlier (x ∷ others))
+
+        tree : (low : Option ℕ) (r : Place) → At (treeChain z low (rest N)) r → OfTree z earlier low
+        tree low r c = record { net = net; place = r; comes = subst (λ (m : ℕ). At (treeChain z low (rest m)) r) (sym n) c }
+
+        further : (x : Net) (r : Place) → At (rest N x) r → At (netsChain z (suc (length (earlier ++ (x ∷ [])))) left (ended z a b g cs N (earlier ++ (x ∷ [])))) r
+        further x r c =
+            subst (λ (m : ℕ). At (netsChain z (suc m) left (ended z a b g cs N (earlier ++ (x ∷ [])))) r) (sym (length-snoc earlier x))
+            (subst (λ (f : List Net → Chain Job). At (netsChain z (suc (suc (length earlier))) left f) r)
+            (λ i others. endChain lent N (jobOf z a b g cs (append-snoc earlier x others i))) c)
 
   -- one test at the line read last
   test-on : (m : ℕ) {b : Bool} {Wrong : Type 0} {w : (b ≡ false) ↔ Wrong} {s : Chain Job} {q : Place} → At (tests (one m b Wrong w) s) q
@@ -389,9 +476,9 @@ module _ (lent : Lent) (text : List ℕ) where
       ranged-on "nets" 0 mostNets a9 (λ N q10 e10 a10.
       let nets : Nets N = (_, q10, a10) in
       test-on 10 a10 (λ h. order-short z N _ q10 stack a10 h (omega arith) (omega arith)) (λ a11.
-      nets-on z N stack nets 1 N a11 (omega arith) (omega arith) (omega arith) (λ ns q12 e12 a12.
+      nets-on z a b g cs N stack nets [] N (omega arith) a11 (omega arith) (λ ns q12 e12 a12.
       then-end (textChain lent text) (start text) Why a12 (λ h. text-after _ q12 a12 h refl) (λ a13.
-      let j : Job = record { width = W; height = H; layers = K; dirs = ds; alpha = a; beta = b; gamma = g; capacities = cs; nets = ns } in
+      let j : Job = jobOf z a b g cs ns in
       test-on 11 a13 (λ h. room-short z N j _ q12 stack nets a13 h e12 e12) (λ a14.
       inr (j, q12, a14))))))))))))))))
 

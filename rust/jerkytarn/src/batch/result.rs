@@ -1,6 +1,7 @@
 //! How a block ended, and how an earlier run's end is read from its result.
 
 use crate::fault::Fault;
+use crate::planner::ldof;
 use layerplan::{Refusal, Totals};
 use std::fs;
 use std::path::Path;
@@ -8,7 +9,11 @@ use std::path::Path;
 /// How a block ended.
 #[derive(Clone, PartialEq, Eq, Debug)]
 pub enum End {
-    Accepted(Totals),
+    Accepted {
+        totals: Totals,
+        /// The last line of the plan; none where the job has no `low` line.
+        ldof: Option<u64>,
+    },
     Refused(Refusal),
     /// Its job could not be read, or its result not be written.
     Failed(Fault),
@@ -25,7 +30,10 @@ pub fn earlier(job: &Path, plan: &Path, refused: &Path) -> Option<End> {
     let changed = |path: &Path| fs::metadata(path).and_then(|file| file.modified()).ok();
     let job = changed(job)?;
     let fresh = |path: &Path| changed(path).filter(|written| *written >= job).and_then(|_| fs::read(path).ok());
-    let accepted = || totals(&fresh(plan)?).map(End::Accepted);
+    let accepted = || {
+        let printed = fresh(plan)?;
+        Some(End::Accepted { totals: totals(&printed)?, ldof: ldof(&printed) })
+    };
     accepted().or_else(|| refusal(&fresh(refused)?).map(End::Refused))
 }
 
@@ -54,6 +62,8 @@ mod tests {
         let plan = include_bytes!("../../../../examples/three-tiles.plan");
         assert_eq!(totals(plan), Some(Totals { vias: 2, overflow: 0, maximum: 0 }));
         assert_eq!(totals(&plan[..plan.len() - 1]), None);
+        let plan = include_bytes!("../../../../examples/timing.plan");
+        assert_eq!((totals(plan), ldof(plan)), (Some(Totals { vias: 5, overflow: 0, maximum: 0 }), Some(3)));
         assert_eq!(totals(b""), None);
         assert_eq!(totals(b"\xff"), None);
         assert_eq!(refusal(b"refused=6,14\nwords\n"), Some(Refusal { number: 6, line: 14 }));

@@ -26,6 +26,8 @@ struct Counts {
     overflow: u64,
     /// The largest overflow of a layer of an edge.
     maximum: u64,
+    /// `ldof` of all blocks that have it; none where no block does.
+    ldof: Option<u64>,
 }
 
 pub struct Teller {
@@ -102,9 +104,10 @@ fn line(job: &Path, outcome: &Outcome) -> String {
     let kept = if outcome.kept { " (kept)" } else { "" };
     let name = visible_path(job);
     match &outcome.end {
-        End::Accepted(totals) => {
+        End::Accepted { totals, ldof } => {
             let (vias, overflow, maximum) = (totals.vias, totals.overflow, totals.maximum);
-            format!("{name}: accepted, vias {vias}, overflow {overflow}, maximum {maximum}{kept}\n")
+            let ldof = ldof.map_or(String::new(), |ldof| format!(", ldof {ldof}"));
+            format!("{name}: accepted, vias {vias}, overflow {overflow}, maximum {maximum}{ldof}{kept}\n")
         }
         End::Refused(refusal) => {
             let title = explain::rule(refusal.number).map_or("", |rule| rule.title);
@@ -118,11 +121,12 @@ impl Counts {
     fn add(&mut self, outcome: &Outcome) {
         self.kept += usize::from(outcome.kept);
         match &outcome.end {
-            End::Accepted(totals) => {
+            End::Accepted { totals, ldof } => {
                 self.accepted += 1;
                 self.vias += totals.vias;
                 self.overflow += totals.overflow;
                 self.maximum = self.maximum.max(totals.maximum);
+                self.ldof = ldof.map(|ldof| self.ldof.unwrap_or(0) + ldof).or(self.ldof);
             }
             End::Refused(_) => self.refused += 1,
             End::Failed(_) => self.failed += 1,
@@ -145,7 +149,8 @@ impl Counts {
             }
         }
         let (vias, overflow, maximum) = (grouped(self.vias), grouped(self.overflow), grouped(self.maximum));
-        out + &format!("; vias {vias}, overflow {overflow}, maximum {maximum}\n")
+        let ldof = self.ldof.map_or(String::new(), |ldof| format!(", ldof {}", grouped(ldof)));
+        out + &format!("; vias {vias}, overflow {overflow}, maximum {maximum}{ldof}\n")
     }
 
     fn verdict(&self) -> Verdict {
@@ -164,7 +169,8 @@ mod tests {
 
     #[test]
     fn counts_and_lines() {
-        let accepted = Outcome { end: End::Accepted(Totals { vias: 1200, overflow: 3, maximum: 2 }), kept: true };
+        let totals = Totals { vias: 1200, overflow: 3, maximum: 2 };
+        let accepted = Outcome { end: End::Accepted { totals, ldof: None }, kept: true };
         let refused = Outcome { end: End::Refused(Refusal { number: 6, line: 14 }), kept: false };
         assert_eq!(line(Path::new("a.job"), &accepted), "a.job: accepted, vias 1200, overflow 3, maximum 2 (kept)\n");
         assert_eq!(line(Path::new("b\n"), &refused), "b\\n: refused=6,14, the same edge twice\n");
@@ -178,5 +184,21 @@ mod tests {
         assert_eq!(counts.summary(3), summary);
         counts.add(&Outcome { end: End::Failed(Fault::new("x")), kept: false });
         assert_eq!(counts.verdict(), Verdict::Failed);
+    }
+
+    #[test]
+    fn ldof_where_some_block_has_it() {
+        let totals = Totals { vias: 4, overflow: 3, maximum: 2 };
+        let outcome = |ldof| Outcome { end: End::Accepted { totals, ldof }, kept: true };
+        let told = "a.job: accepted, vias 4, overflow 3, maximum 2, ldof 1700 (kept)\n";
+        assert_eq!(line(Path::new("a.job"), &outcome(Some(1700))), told);
+        let summary = |ldofs: &[Option<u64>]| {
+            let mut counts = Counts::default();
+            ldofs.iter().for_each(|ldof| counts.add(&Outcome { kept: false, ..outcome(*ldof) }));
+            counts.summary(ldofs.len())
+        };
+        assert!(summary(&[None, None]).ends_with("; vias 8, overflow 6, maximum 2\n"));
+        assert!(summary(&[None, Some(0)]).ends_with(", maximum 2, ldof 0\n"));
+        assert!(summary(&[Some(1), Some(1700), None]).ends_with(", maximum 2, ldof 1,701\n"));
     }
 }

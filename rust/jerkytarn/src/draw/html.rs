@@ -41,6 +41,7 @@ fn put_block(out: &mut String, name: &str, block: &Block) {
         job.grid.width, job.grid.height, job.layers, block.totals.vias
     );
     put_directions(out, block);
+    put_directives(out, block);
     let _ =
         write!(out, "\"flat\":[{},{}],\"overflow\":[{},{}],", flat.total, flat.maximum, layered.total, layered.maximum);
     out.push_str("\n\"capacity\":");
@@ -61,6 +62,20 @@ fn put_directions(out: &mut String, block: &Block) {
         let _ = write!(out, "\"{letter}\"");
     });
     let _ = write!(out, ",\"limits\":[{},{}],", limits.east, limits.north);
+}
+
+/// `ldof`, each net's lowest wanted layer, and each edge with excess: its number, then its excess by layer from the bottom.
+/// Nothing where the job has no `low` line.
+fn put_directives(out: &mut String, block: &Block) {
+    let Some(directives) = &block.directives else { return };
+    let lows: Vec<usize> = block.job.nets.iter().map(|net| net.wants()).collect();
+    let _ = write!(out, "\"directives\":{{\"ldof\":{},\"low\":", directives.ldof());
+    put_numbers(out, &lows);
+    out.push_str(",\"excess\":");
+    put_list(out, directives.most_excess(usize::MAX), |out, edge| {
+        put_numbers(out, &[&[edge], &directives.edges[edge].excess[..]].concat());
+    });
+    out.push_str("},");
 }
 
 /// A net: its vias, turn and score, its pins as 8 × tile + layer - 1, and its edges as 8 × edge + layer - 1.
@@ -112,6 +127,17 @@ mod tests {
         // net 1: two vias, second in turn, pins in tiles 0 and 2 on layer 1, edge 0 on layer 2 and edge 1 on layer 1
         assert_eq!(value["nets"][0], serde_json::json!([2, 2, 2500, [0, 16], [1, 8]]));
         assert!(!out.contains('<') && value.get("dirs").is_none() && value.get("limits").is_none());
+        assert!(value.get("directives").is_none());
+    }
+
+    #[test]
+    fn wanted_layers_are_among_the_numbers() {
+        let mut out = String::new();
+        put_block(&mut out, "timing.job", &crate::figures::timing_example());
+        let value: serde_json::Value = serde_json::from_str(&out).unwrap();
+        let expected =
+            serde_json::json!({ "ldof": 3, "low": [3, 3, 2, 1, 2, 1], "excess": [[1, 0, 1, 1], [0, 0, 0, 1]] });
+        assert_eq!(value["directives"], expected);
     }
 
     #[test]

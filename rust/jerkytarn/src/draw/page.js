@@ -72,6 +72,16 @@ function netsAtTile(x, y) {
 const carries = (layer, way) => !block.dirs || block.dirs[layer - 1] === (way === 'e' ? 'h' : 'v');
 const layerName = (layer) => (block.dirs ? `Layer ${layer} (${block.dirs[layer - 1]})` : `Layer ${layer}`);
 
+// What the nets want, where the job has a line `low`: the lowest wanted layer of a net, the excess of an edge at a layer
+// and in all, and the nets on an edge of a layer that want a higher one.
+const { directives } = block;
+const lowOf = (number) => (directives ? directives.low[number - 1] : 1);
+const excesses = new Map((directives ? directives.excess : []).map(([edge, ...byLayer]) => [edge, byLayer]));
+const excessAt = (layer, edge) => (excesses.get(edge) || [])[layer - 1] || 0;
+const excess = (edge) => (excesses.get(edge) || []).reduce((sum, each) => sum + each, 0);
+const belowAt = (layer, edge) => netsOn(layer, edge).filter((number) => lowOf(number) > layer).length;
+const belowOf = (number) => net(number).edges.filter((code) => (code & 7) + 1 < lowOf(number)).length;
+
 // 0: no track used, 1 to 10: by tenths, -1: overflow, -2: neither tracks nor nets
 function classOf(layer, edge) {
   const [some, all] = [used(layer, edge), capacity(layer, edge)];
@@ -198,8 +208,20 @@ function edgeFacts(at) {
       ['used', group(used(at.layer, edge))],
       ['overflow', group(over), over > 0],
       ['on all layers', `${group(all)} of ${group(tracks)}`, all > tracks],
+      ...directiveFacts(at.layer, edge),
     ]),
     chips(netsOn(at.layer, edge)),
+  ];
+}
+
+// What the nets on an edge want of it; nothing where the job has no directives.
+function directiveFacts(layer, edge) {
+  if (!directives) return [];
+  const [below, sum] = [belowAt(layer, edge), excess(edge)];
+  const layers = (excesses.get(edge) || []).map((some, place) => some && place + 1).filter(Boolean);
+  return [
+    ['want a higher layer', group(below), below > 0],
+    ['directive excess', sum ? `${group(sum)} (${layers.length > 1 ? 'layers' : 'layer'} ${layers.join(', ')})` : '0', sum > 0],
   ];
 }
 
@@ -228,6 +250,7 @@ function showNet() {
       ['pins', pins.length],
       ['in tiles', new Set(pins.map((code) => code >> 3)).size],
       ['on layers', layers.join(', ') || 'none'],
+      ...(directives ? [['lowest wanted layer', lowOf(number)], ['edges below it', group(belowOf(number)), belowOf(number) > 0]] : []),
       ['turn', `${group(turn)} of ${group(NETS)}`],
       ['score', group(score)],
     ]),
@@ -241,10 +264,12 @@ function showFigures() {
   const dirs = block.dirs ? ` (${block.dirs.join(',')})` : '';
   const limits = block.dirs ? `; limit of a layer east ${group(block.limits[0])}, north ${group(block.limits[1])}` : '';
   byId('runs').hidden = !block.dirs;
+  document.querySelectorAll('.directives').forEach((each) => { each.hidden = !directives; });
   byId('figures').append(
     strong(W), ' × ', strong(H), ' tiles · ', strong(K), ` layers${dirs} · `, strong(NETS), ' nets · ', strong(block.vias),
     ' vias · overflow ', strong(total), `, at most ${group(maximum)} on an edge (flat plan ${group(block.flat[0])}, at most ${group(block.flat[1])}${limits})`,
   );
+  if (directives) byId('figures').append(' · ldof ', strong(directives.ldof));
   for (let step = 0; step <= 10; step += 1) byId('ramp').append(element('i', { style: `background:var(--u${step})` }));
 }
 
@@ -261,10 +286,42 @@ function showCrowded() {
     const { x, y, way } = ends(edge);
     const at = { layer, x, y, way };
     const share = `${group(some)} of ${group(capacity(layer, edge))}${over ? ' ◆' : ''}`;
-    const button = element('button', { type: 'button', onclick: () => hold(at) }, element('span', {}, edgeWords(at)), element('span', {}, share));
-    byId('crowded').append(element('li', {}, button));
+    byId('crowded').append(placeRow(at, edgeWords(at), share));
   }
   if (!places.length) byId('crowded').append(element('li', { class: 'hint' }, 'No edge is full.'));
+}
+
+// A row of a list of places: a button that leads there.
+function placeRow(at, words, figure) {
+  return element('li', {}, element('button', { type: 'button', onclick: () => hold(at) }, element('span', {}, words), element('span', {}, figure)));
+}
+
+// The layer on which an edge is shown for an excess at this one: the next that carries it, or else the highest that does.
+function layerFor(layer, way) {
+  const own = Array.from({ length: K }, (_, place) => place + 1).filter((each) => carries(each, way));
+  return own.find((each) => each >= layer) || own[own.length - 1];
+}
+
+// Which layers the nets want, what the plan gives them, and the edges where that cannot be had.
+function showDirectives() {
+  if (!directives) return;
+  byId('list').parentElement.classList.add('with-low');
+  document.querySelector('.list-head').append(element('span', {}, 'low'));
+  byId('sort').append(element('option', { value: 'low' }, 'highest low'));
+  const all = Array.from({ length: NETS }, (_, place) => place + 1);
+  const rows = [];
+  for (let low = 2; low <= K; low += 1) {
+    const nets = all.filter((number) => lowOf(number) === low);
+    const count = (figure) => group(nets.reduce((sum, number) => sum + figure(number), 0));
+    if (nets.length) rows.push([`low ${low}: ${group(nets.length)} ${nets.length === 1 ? 'net' : 'nets'}`, `${count(belowOf)} of ${count((number) => net(number).edges.length)} edges below`]);
+  }
+  rows.push(['ldof', group(directives.ldof), directives.ldof > 0]);
+  byId('wanted').append(facts(rows));
+  for (const [edge, ...byLayer] of directives.excess.slice(0, 15)) {
+    const { x, y, way, x2, y2 } = ends(edge);
+    const at = { layer: layerFor(byLayer.findIndex((some) => some > 0) + 1, way), x, y, way };
+    byId('excess').append(placeRow(at, `${x},${y} → ${x2},${y2}`, `excess ${group(excess(edge))} ▲`));
+  }
 }
 
 // ---- the list of nets: only the rows in sight are there ------------------------------------------------------------
@@ -277,6 +334,7 @@ const orders = {
   vias: (a, b) => block.nets[b - 1][0] - block.nets[a - 1][0] || a - b,
   edges: (a, b) => block.nets[b - 1][4].length - block.nets[a - 1][4].length || a - b,
   turn: (a, b) => block.nets[a - 1][1] - block.nets[b - 1][1],
+  low: (a, b) => lowOf(b) - lowOf(a) || a - b,
 };
 
 function found(words) {
@@ -317,13 +375,14 @@ function showInList(number) {
 
 function row(number, place) {
   const { vias, edges, pins, turn } = net(number);
-  const cells = [number, vias, edges.length, pins.length, turn].map((value) => element('span', {}, String(value)));
+  const cells = [number, vias, edges.length, pins.length, turn, ...(directives ? [lowOf(number)] : [])].map((value) => element('span', {}, String(value)));
+  const wants = lowOf(number) > 1 ? `, wants layer ${lowOf(number)} or higher` : '';
   return element('div', {
     class: `net-row${place === list.active ? ' active' : ''}`,
     id: `row-${place}`,
     role: 'option',
     'aria-selected': String(number === state.net),
-    'aria-label': `net ${number}, ${vias} vias, ${edges.length} edges`,
+    'aria-label': `net ${number}, ${vias} vias, ${edges.length} edges${wants}`,
     style: `top:${ROW * place}px`,
     onclick: () => {
       list.active = place;
@@ -381,18 +440,21 @@ class LayerMap {
 
   words() {
     if (!this.layer) return `${group(block.vias)} in all`;
-    let [tracks, taken, over] = [0, 0, 0];
+    let [tracks, taken, over, short] = [0, 0, 0, 0];
     for (let edge = 0; edge < EDGES; edge += 1) {
       tracks += capacity(this.layer, edge);
       taken += Math.min(used(this.layer, edge), capacity(this.layer, edge));
       over += overflow(this.layer, edge) > 0 ? 1 : 0;
+      short += excessAt(this.layer, edge) > 0 ? 1 : 0;
     }
     const share = tracks ? `${((100 * taken) / tracks).toFixed(1)} % used` : 'no tracks';
-    return over ? `${share}, ${group(over)} ${over === 1 ? 'edge overflows' : 'edges overflow'}` : share;
+    const words = over ? `${share}, ${group(over)} ${over === 1 ? 'edge overflows' : 'edges overflow'}` : share;
+    return short ? `${words}, ${group(short)} ▲` : words;
   }
 
   label() {
-    return this.layer ? `${layerName(this.layer)}: ${this.words()}. Arrow keys move from tile to edge.` : 'Vias by tile. Arrow keys move.';
+    const words = this.words().replace('▲', 'with directive excess');
+    return this.layer ? `${layerName(this.layer)}: ${words}. Arrow keys move from tile to edge.` : 'Vias by tile. Arrow keys move.';
   }
 
   enlarge() {
@@ -493,6 +555,26 @@ class LayerMap {
       pen.fillStyle = fill;
       for (const edge of over) this.diamond(pen, edge, size, rim);
     }
+    this.drawExcess(pen, small ? Math.max(3, 0.28 * this.tile) : Math.min(0.24 * this.tile, 7));
+  }
+
+  // On each edge with excess at this layer a triangle; it stands aside where the edge has the mark of overflow.
+  drawExcess(pen, radius) {
+    pen.fillStyle = palette.mark;
+    pen.strokeStyle = palette.ink;
+    pen.lineWidth = Math.min(0.12 * this.tile, 1.5);
+    for (const edge of this.edges().filter((each) => excessAt(this.layer, each) > 0)) {
+      const { x, y, x2, y2 } = ends(edge);
+      const part = overflow(this.layer, edge) ? 0.2 : 0.5;
+      const [a, b] = this.middle(x + part * (x2 - x), y + part * (y2 - y));
+      pen.beginPath();
+      pen.moveTo(a, b - radius);
+      pen.lineTo(a + radius, b + 0.7 * radius);
+      pen.lineTo(a - radius, b + 0.7 * radius);
+      pen.closePath();
+      pen.fill();
+      pen.stroke();
+    }
   }
 
   // The mark of overflow: seen by its shape, not only by its colour.
@@ -539,8 +621,8 @@ class LayerMap {
     if (state.at) this.drawPlace(pen, state.at);
   }
 
-  // The chosen net: bold on this layer, dashed on the others, with its pins and vias here.
-  drawNet(pen, { pins, edges }) {
+  // The chosen net: bold on this layer, hollow where it wants a higher one, dashed on the others, with its pins and vias here.
+  drawNet(pen, { number, pins, edges }) {
     const here = (code) => this.layer && (code & 7) + 1 === this.layer;
     pen.lineCap = 'round';
     pen.strokeStyle = palette.net;
@@ -549,7 +631,8 @@ class LayerMap {
     this.strokeEdges(pen, edges.filter((code) => !here(code)));
     pen.setLineDash([]);
     const bold = Math.max(2.5, Math.min(0.34 * this.tile, 9));
-    for (const [style, width] of [[palette.halo, bold + 3], [palette.net, bold]]) {
+    const hollow = this.layer < lowOf(number) ? [[palette.halo, 0.45 * bold]] : [];
+    for (const [style, width] of [[palette.halo, bold + 3], [palette.net, bold], ...hollow]) {
       pen.strokeStyle = style;
       pen.lineWidth = width;
       this.strokeEdges(pen, edges.filter(here));
@@ -722,7 +805,8 @@ function showTip(event, at) {
     const edge = edgeNumber(at.x, at.y, at.way);
     const over = overflow(at.layer, edge);
     const share = `${group(used(at.layer, edge))} of ${group(capacity(at.layer, edge))} used`;
-    tip.textContent = `${edgeWords(at)}: ${share}${over ? `, overflow ${group(over)} ◆` : ''}`;
+    const short = excessAt(at.layer, edge);
+    tip.textContent = `${edgeWords(at)}: ${share}${over ? `, overflow ${group(over)} ◆` : ''}${short ? `, excess ${group(short)} ▲` : ''}`;
   } else {
     tip.textContent = `Tile ${at.x},${at.y}: ${group(viasAt(at.y * W + at.x))} vias`;
   }
@@ -788,6 +872,7 @@ function start() {
   maps.push(new LayerMap(0));
   byId('maps').append(...maps.map((map) => map.figure));
   redrawAll();
+  showDirectives();
   search();
   showCrowded();
   listenToPage();

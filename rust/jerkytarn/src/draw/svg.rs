@@ -21,6 +21,8 @@ const MARGIN: f64 = 24.0;
 const HEADER: f64 = 64.0;
 const TITLE: f64 = 24.0;
 const LEGEND: f64 = 64.0;
+/// What one more line of the legend takes.
+const LEGEND_LINE: f64 = 18.0;
 const LEGEND_WIDTH: f64 = 560.0;
 
 /// How many panels stand in a row, so that the last row is nearly as long as the others.
@@ -51,6 +53,8 @@ struct Layout {
     least: f64,
     columns: usize,
     rows: usize,
+    /// The height of the legend.
+    legend: f64,
 }
 
 impl Layout {
@@ -66,6 +70,7 @@ impl Layout {
             least: PANEL_LEAST + if block.job.dirs.is_some() { DIRECTION } else { 0.0 },
             columns,
             rows: panels.div_ceil(columns),
+            legend: LEGEND + LEGEND_LINE * more_legend_lines(block).saturating_sub(1) as f64,
         }
     }
 
@@ -77,7 +82,7 @@ impl Layout {
     fn size(&self) -> (f64, f64) {
         let (across, down) = self.step();
         let width = (2.0 * MARGIN + self.columns as f64 * across - GAP).max(2.0 * MARGIN + LEGEND_WIDTH);
-        (width, MARGIN + HEADER + self.rows as f64 * down + LEGEND)
+        (width, MARGIN + HEADER + self.rows as f64 * down + self.legend)
     }
 
     /// The upper left corner of a panel.
@@ -150,7 +155,7 @@ pub fn picture(name: &str, block: &Block) -> String {
         put_layer(&mut out, block, &layout, layer);
     }
     put_vias(&mut out, block, &layout);
-    put_legend(&mut out, height - LEGEND + 8.0, block.job.dirs.is_some());
+    put_legend(&mut out, height - layout.legend + 8.0, block);
     out.push_str("</svg>\n");
     out
 }
@@ -166,7 +171,8 @@ fn put_header(out: &mut String, name: &str, block: &Block) {
         format!("overflow {} (at most {} on an edge; flat {})", g(layered.total), g(layered.maximum), g(flat.total));
     let _ = writeln!(out, "<text class=\"h\" x=\"{MARGIN}\" y=\"38\">{}</text>", escaped(name));
     let vias = grouped(block.totals.vias);
-    let _ = writeln!(out, "<text class=\"f\" x=\"{MARGIN}\" y=\"60\">{size}; {vias} vias; {overflow}</text>");
+    let ldof = block.directives.as_ref().map_or(String::new(), |directives| format!("; ldof {}", g(directives.ldof())));
+    let _ = writeln!(out, "<text class=\"f\" x=\"{MARGIN}\" y=\"60\">{size}; {vias} vias; {overflow}{ldof}</text>");
 }
 
 /// A panel's title and frame.
@@ -237,7 +243,26 @@ fn put_layer(out: &mut String, block: &Block, layout: &Layout, layer: usize) {
             false => writeln!(out, "<path class=\"m\" d=\"{marks}\"/>"),
         };
     }
+    put_excess(out, block, layout, layer);
     out.push_str("</g>\n");
+}
+
+/// A mark on each edge with too few tracks here and above for the nets whose lowest wanted layer this is. It stands aside
+/// where the edge has the mark of overflow.
+fn put_excess(out: &mut String, block: &Block, layout: &Layout, layer: usize) {
+    let Some(directives) = &block.directives else { return };
+    let mut marks = String::new();
+    for edge in (0..block.job.grid.edges()).filter(|edge| directives.edges[*edge].excess[layer - 1] > 0) {
+        let part = if block.overflow(Place { layer, edge }) > 0 { 0.2 } else { 0.5 };
+        let (tile, way) = block.job.grid.named(edge);
+        let (x, y) = middle(block, layout, tile);
+        let along = part * layout.tile;
+        let (x, y) = if way == Way::East { (x + along, y) } else { (x, y - along) };
+        marks.push_str(&triangle(x, y, layout.mark()));
+    }
+    if !marks.is_empty() {
+        let _ = writeln!(out, "<path class=\"m\" stroke-width=\".8\" d=\"{marks}\"/>");
+    }
 }
 
 /// An edge from the middle of its tile: a gap, then the stroke.
@@ -258,6 +283,13 @@ fn diamond(x: f64, y: f64, radius: f64) -> String {
     format!("M{} {}l{r} {r}l-{r} {r}l-{r}-{r}z", n(x), n(y - radius))
 }
 
+/// A triangle that points up, about as large as a diamond of this radius.
+fn triangle(x: f64, y: f64, radius: f64) -> String {
+    // rounded first, so that it is even
+    let radius = (10.0 * radius).round() / 10.0;
+    format!("M{} {}l{r} {}h-{}z", n(x), n(y - radius), n(1.7 * radius), n(2.0 * radius), r = n(radius))
+}
+
 /// The vias of all nets at each tile, as discs by area.
 fn put_vias(out: &mut String, block: &Block, layout: &Layout) {
     let tiles = block.job.grid.tiles();
@@ -275,8 +307,13 @@ fn put_vias(out: &mut String, block: &Block, layout: &Layout) {
     let _ = writeln!(out, "<path class=\"v\" d=\"{discs}\"/>\n</g>");
 }
 
+/// How many lines the legend has for the optional lines of a job.
+fn more_legend_lines(block: &Block) -> usize {
+    usize::from(block.job.dirs.is_some()) + usize::from(block.directives.is_some())
+}
+
 /// What colours and marks mean, and, where layers have directions, what their letters do.
-fn put_legend(out: &mut String, y: f64, directed: bool) {
+fn put_legend(out: &mut String, y: f64, block: &Block) {
     let _ = writeln!(out, "<g transform=\"translate({MARGIN} {})\">\n<text y=\"4\">Tracks used</text>", n(y));
     for class in 0..CLASSES {
         let x = 84 + 24 * class;
@@ -292,8 +329,20 @@ fn put_legend(out: &mut String, y: f64, directed: bool) {
          <text class=\"f\" x=\"376\" y=\"22\">an edge without tracks and nets is left out</text>",
         diamond(389.0, 0.0, 5.0)
     );
-    if directed {
-        out.push_str("<text class=\"f\" y=\"40\">(h): a layer for east edges only; (v): for north edges only</text>\n");
+    let mut line = 40.0;
+    if block.job.dirs.is_some() {
+        let words = "(h): a layer for east edges only; (v): for north edges only";
+        let _ = writeln!(out, "<text class=\"f\" y=\"{}\">{words}</text>", n(line));
+        line += LEGEND_LINE;
+    }
+    if block.directives.is_some() {
+        let words = "too few tracks here and above for the nets whose lowest wanted layer this is (ldof)";
+        let mark = triangle(5.0, line - 4.0, 5.0);
+        let _ = writeln!(
+            out,
+            "<path class=\"m\" d=\"{mark}\"/><text class=\"f\" x=\"16\" y=\"{}\">{words}</text>",
+            n(line)
+        );
     }
     out.push_str("</g>\n");
 }
@@ -323,6 +372,37 @@ mod tests {
         };
         assert_eq!([1, 2, 3].map(|layer| strokes(layer, 'h')), [4, 0, 3]);
         assert_eq!([1, 2, 3].map(|layer| strokes(layer, 'v')), [0, 3, 0]);
+    }
+
+    #[test]
+    fn excess_is_marked_on_the_layer_that_is_wanted() {
+        let drawn = picture("timing.job", &crate::figures::timing_example());
+        assert!(drawn.contains("at most 0 on an edge; flat 0); ldof 3</text>"), "{drawn}");
+        let panel = |layer: usize| drawn.split("<g transform").nth(layer).unwrap();
+        // triangles, and no diamond: nothing overflows
+        let marks = |part: &str| part.split("class=\"m\"").skip(1).map(|part| part.matches('M').count()).sum::<usize>();
+        assert_eq!([1, 2, 3].map(|layer| marks(panel(layer))), [0, 1, 2]);
+        assert!(
+            panel(5).contains(">too few tracks here and above for the nets whose lowest wanted layer this is (ldof)<")
+        );
+        assert!(!picture("a", &crate::figures::directed_example()).contains("ldof"));
+    }
+
+    #[test]
+    fn the_legend_has_room_for_each_line() {
+        let text = include_str!("../../../../examples/directed.job").replace("net=1\n", "net=1\nlow=3\n");
+        let planned = crate::figures::plan(&mut crate::planner::Planner::new(), text.as_bytes()).unwrap();
+        let drawn = picture("a", &planned.unwrap());
+        let without = picture("a", &crate::figures::directed_example());
+        let height = |drawn: &str| -> f64 {
+            let rest = drawn.split(" height=\"").nth(1).unwrap();
+            rest[..rest.find('"').unwrap()].parse().unwrap()
+        };
+        assert_eq!(height(&drawn), height(&without) + LEGEND_LINE);
+        assert!(drawn.contains("y=\"40\">(h): a layer") && drawn.contains("y=\"58\">too few tracks here"));
+        // the net wants layer 3, which carries no north edges: its north edge is marked there all the same
+        let panel = drawn.split("<g transform").nth(3).unwrap();
+        assert_eq!(panel.split("class=\"m\" stroke-width=\".8\"").nth(1).unwrap().matches('M').count(), 2);
     }
 
     #[test]

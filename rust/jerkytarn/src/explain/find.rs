@@ -101,7 +101,7 @@ pub fn range(site: &Site) -> Option<Finding> {
                 at: Some(start..start + value.len()),
                 found: format!("`{}` is {}", site.kind.key(), shortened(value, 20)),
                 expected: format!("a number from {low} to {high}"),
-                advice: None,
+                advice: low_advice(site),
             })
         }
         Form::Numbers(_, range) => first_entry(site, b',', |place, entry| {
@@ -112,6 +112,13 @@ pub fn range(site: &Site) -> Option<Finding> {
         Form::Edges => first_entry(site, b';', |place, entry| edge_range(site.job.grid, place, entry)),
         Form::Turn(_) | Form::Dirs(_) | Form::Nothing => None,
     }
+}
+
+/// What to do about a wanted layer that the stack does not have.
+fn low_advice(site: &Site) -> Option<String> {
+    let Kind::Low(net) = site.kind else { return None };
+    let layers = site.job.layers;
+    Some(format!("name one of the {layers} layers, or take the line out if net {net} may be on any layer"))
 }
 
 /// The first entry of which something is found: what was found there, and what was expected.

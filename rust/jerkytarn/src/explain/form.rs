@@ -1,7 +1,7 @@
 //! Refusal 2 in words: what is wrong with the form of a line.
 
 use super::find::{Finding, Site};
-use crate::job::{self, Form, Kind, DIRS_LINE, KEYS};
+use crate::job::{self, Form, Kind, DIRS_LINE, KEYS, OPTIONAL_KEYS};
 use crate::visible::shortened;
 use std::ops::Range;
 
@@ -42,12 +42,12 @@ fn expected(site: &Site) -> String {
     let key = site.kind.key();
     let whose = match site.kind {
         Kind::East(layer) | Kind::North(layer) => format!(" of layer {layer}"),
-        Kind::Pins(net) | Kind::Edges(net) => format!(" of net {net}"),
+        Kind::Low(net) | Kind::Pins(net) | Kind::Edges(net) => format!(" of net {net}"),
         _ => String::new(),
     };
     match site.kind.form(&site.job) {
         Form::Number(range) => {
-            format!("`{key}=` and a number from {} to {}, then a line feed", range.start(), range.end())
+            format!("`{key}=`{whose} and a number from {} to {}, then a line feed", range.start(), range.end())
         }
         Form::Turn(turn) => format!("`net={turn}`, then a line feed"),
         Form::Dirs(count) => {
@@ -107,6 +107,7 @@ fn after_the_end(site: &Site, line: &[u8]) -> Option<Slip> {
         [] => Slip::new(0..0, "an empty line after the last line").advising("take the empty line out"),
         _ if line.starts_with(b"net=") => Slip::new(0..line.len(), "a net more than announced")
             .advising(format!("raise the {announced} on the `nets` line, or take the nets from here on out")),
+        _ if line.starts_with(b"low=") => Slip::new(0..line.len(), "text after the last line").advising(LOW_PLACE),
         _ => Slip::new(0..line.len(), "text after the last line").advising("take it out"),
     })
 }
@@ -156,6 +157,9 @@ fn wrong_key(site: &Site, line: &[u8]) -> Slip {
         _ if trimmed.eq_ignore_ascii_case(b"dirs") => {
             Slip::new(0..end, format!("the key `{shown}`")).advising(misplaced_dirs(site))
         }
+        _ if trimmed.eq_ignore_ascii_case(b"low") => {
+            Slip::new(0..end, format!("the key `{shown}`")).advising(misplaced_low(site))
+        }
         _ if KEYS.iter().any(|other| trimmed == other.as_bytes()) => {
             Slip::new(0..end, format!("the key `{shown}`")).advising(out_of_order(site, &shown))
         }
@@ -169,6 +173,7 @@ fn wrong_key(site: &Site, line: &[u8]) -> Slip {
 fn keys_here(site: &Site) -> String {
     match (site.kind, site.number) {
         (Kind::Alpha, DIRS_LINE) => "`dirs` or `alpha`".into(),
+        (Kind::Pins(_), _) if !has_low(site) => "`low` or `pins`".into(),
         _ => format!("`{}`", site.kind.key()),
     }
 }
@@ -182,9 +187,27 @@ fn misplaced_dirs(site: &Site) -> String {
     }
 }
 
+/// Where a `low` line stands.
+const LOW_PLACE: &str = "a `low` line stands right after the `net` line of its net, or not at all";
+
+/// Whether the net at hand has its `low` line.
+fn has_low(site: &Site) -> bool {
+    site.job.nets.last().is_some_and(|net| net.low.is_some())
+}
+
+/// The key `low` where no such line stands.
+fn misplaced_low(site: &Site) -> String {
+    match site.kind {
+        Kind::Pins(_) | Kind::Edges(_) if has_low(site) => "take it out: a net has one such line".into(),
+        Kind::Pins(_) => "begin the line with `low=`, in small letters and without spaces".into(),
+        Kind::Edges(_) => format!("put it before the `pins` line: {LOW_PLACE}"),
+        _ => LOW_PLACE.into(),
+    }
+}
+
 /// The keys in their order; one in brackets may be left out.
 fn order_of_keys() -> String {
-    KEYS.map(|key| if key == Kind::Dirs.key() { format!("[{key}]") } else { key.into() }).join(" ")
+    KEYS.map(|key| if OPTIONAL_KEYS.contains(&key) { format!("[{key}]") } else { key.into() }).join(" ")
 }
 
 /// A key of a job, but not the one in turn.

@@ -5,6 +5,8 @@ const EXAMPLE: &[u8] = include_bytes!("../../../../examples/three-tiles.job");
 
 const DIRECTED: &[u8] = include_bytes!("../../../../examples/directed.job");
 
+const TIMING: &[u8] = include_bytes!("../../../../examples/timing.job");
+
 /// The example with a line put in the place of another.
 fn with_line(number: usize, line: &str) -> Vec<u8> {
     replaced(EXAMPLE, number, line)
@@ -252,6 +254,73 @@ fn working_numbers_are_told_on_the_line_of_directions() {
     let lent = Lengths { work: 247, ..Lengths::enough(0) };
     let told = message("a.job", DIRECTED, Refusal { number: 9, line: 4 }, lent);
     expect_words(&told, 9, 4, &["247 working numbers lent", "248 or more", "4 | dirs=h,v,h"]);
+}
+
+/// That the example with wanted layers, with a line put in the place of another, gets this number there and is told so.
+fn expect_timing(number: u32, line: u32, new: &str, words: &[&str]) {
+    expect(&replaced(TIMING, line as usize, new), number, line, words);
+}
+
+#[test]
+fn lines_of_wanted_layers_of_another_form() {
+    expect_timing(2, 15, "low=\n", &["a number is missing", "`low=` of net 1 and a number from 1 to 3"]);
+    expect_timing(2, 15, "low=03\n", &["`03` has a zero before other digits", "| low=03\n         |     ^^\n"]);
+    expect_timing(2, 19, "low= 3\n", &["spaces around the number", "`low=` of net 2"]);
+    expect_timing(2, 15, "low=3;\n", &["`3;` is not a number"]);
+    expect_timing(2, 15, "low=2,3\n", &["`2,3` is not a number"]);
+    expect_timing(2, 15, "low=-1\n", &["has a sign"]);
+    expect_timing(2, 15, "low=100000\n", &["more than five digits"]);
+    expect_timing(2, 15, "low=3\r\n", &["carriage return"]);
+    let start = TIMING.windows(6).position(|part| part == b"low=3\n").unwrap();
+    expect(&TIMING[..start + 5], 2, 15, &["not ended by a line feed", "`low=` of net 1"]);
+    expect(&TIMING[..start], 2, 15, &["ends after line 14", "`pins=` of net 1"]);
+}
+
+#[test]
+fn wanted_layers_out_of_range() {
+    let advice = "name one of the 3 layers, or take the line out if net 2 may be on any layer";
+    expect_timing(3, 19, "low=0\n", &["`low` is 0", "a number from 1 to 3", advice]);
+    expect_timing(3, 19, "low=4\n", &["`low` is 4", "a number from 1 to 3", "| low=4\n         |     ^\n"]);
+    expect_timing(3, 15, "low=99999\n", &["`low` is 99999", "if net 1 may be on any layer"]);
+}
+
+#[test]
+fn the_key_of_wanted_layers_where_it_does_not_stand() {
+    for line in ["Low=3\n", " low=3\n", "low =3\n", "low\n", "LOW=3\n"] {
+        let words = ["`pins=` of net 1", "begin the line with `low=`, in small letters and without spaces"];
+        expect_timing(2, 15, line, &words);
+    }
+    let place = "a `low` line stands right after the `net` line of its net, or not at all";
+    expect_timing(2, 15, "lows=3\n", &["the key `lows`", "no such key; here stands `low` or `pins`"]);
+    expect_timing(2, 16, "lows=3\n", &["the key `lows`", "no such key; here stands `pins`"]);
+    expect_timing(2, 16, "low=3\n", &["the key `low`", "`pins=` of net 1", "take it out: a net has one such line"]);
+    expect_timing(
+        2,
+        28,
+        "low=2\n",
+        &["the key `low`", "`edges=` of net 4", "put it before the `pins` line: a `low` line stands"],
+    );
+    expect_timing(2, 17, "low=3\n", &["the key `low`", "`edges=` of net 1", "a net has one such line"]);
+    expect_timing(2, 18, "low=3\n", &["the key `low`", "`net=2`", place]);
+    expect_timing(2, 13, "low=3\n", &["the key `low`", "`nets=`", place]);
+    expect(&[TIMING, b"low=2\n"].concat(), 2, 37, &["text after the last line", place]);
+    expect_timing(2, 2, "alpha=1\n", &["[dirs] alpha beta", "net [low] pins edges"]);
+}
+
+#[test]
+fn lines_behind_wanted_layers_have_their_kinds() {
+    expect_timing(3, 16, "pins=0,0,4\n", &["in pin 1 the layer is 4"]);
+    expect_timing(5, 20, "pins=0,0,1;0,0,1\n", &["entry 1 and again as entry 2"]);
+    expect_timing(6, 21, "edges=0,0,e;0,0,e\n", &["edge 0,0,e as entry 1 and again as entry 2"]);
+    expect_timing(8, 21, "edges=0,0,e\n", &["pin 2 of line 20, 2,0,2", "tile 1,0, which is reached"]);
+    expect_timing(4, 26, "net=5\n", &["net number 5", "the 4th net"]);
+    expect_timing(4, 29, "net=4\n", &["net 4 stands twice", "the 5th net"]);
+    expect_timing(2, 29, "pins=0,0,1\n", &["`net=5`", "each net has `net`, `pins` and `edges`"]);
+    expect(&[TIMING, b"\n"].concat(), 2, 37, &["an empty line after the last line", "after line 36"]);
+    let lent = Lengths { answer: 10, ..Planner::new().lent() };
+    let refusal = Planner::lending(lent).print(TIMING).unwrap_err();
+    let told = message("a.job", TIMING, refusal, lent);
+    expect_words(&told, 11, 36, &["10 bytes of answer list lent", "11 or more"]);
 }
 
 #[test]

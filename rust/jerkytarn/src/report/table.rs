@@ -1,6 +1,6 @@
 //! The report as a table for a terminal.
 
-use super::Report;
+use super::{Directives, Report};
 use crate::job::{in_brackets, Grid, Way};
 use std::fmt::Write;
 
@@ -72,6 +72,10 @@ pub fn table(report: &Report, style: Style) -> String {
     put_block(&mut out, report, style);
     put_layers(&mut out, report, style);
     put_crowded(&mut out, report, style);
+    if let Some(directives) = &report.directives {
+        put_wanted(&mut out, directives);
+        put_excess(&mut out, directives, style);
+    }
     put_levels(&mut out, report, style);
     put_histogram(&mut out, report, style);
     put_nets(&mut out, report);
@@ -99,6 +103,10 @@ pub fn put_block(out: &mut String, report: &Report, style: Style) {
     }
     line!(out, "  layered overflow  total {}, maximum {}", g(layered.total), g(layered.maximum));
     line!(out, "  vias              {}", grouped(report.vias));
+    if let Some(Directives { nets, ldof, .. }) = &report.directives {
+        let want = if *nets == 1 { "net wants" } else { "nets want" };
+        line!(out, "  directives        {} {want} a layer above 1, ldof {}", g(*nets), g(*ldof));
+    }
     let lent = [("work", need.work), ("order", need.order), ("answer", need.answer), ("print", need.print)];
     let lent = lent.map(|(name, length)| format!("{name} {}", g(length))).join(", ");
     line!(out, "  storage to lend   {lent}");
@@ -124,7 +132,7 @@ fn put_layers(out: &mut String, report: &Report, style: Style) {
     for row in &report.by_layer {
         let runs = row.runs.map_or(String::new(), |runs| format!("{runs:>6}"));
         let bar = style.bar(row.used - row.overflow, row.tracks);
-        let over = if row.overflow > 0 { " !" } else { "" };
+        let over = mark(row.overflow);
         line!(
             out,
             "  {:>5}{runs} {:>11} {:>10}  {bar} {:>5.1}% {:>10} {:>11} {:>9}{over}",
@@ -147,8 +155,7 @@ fn put_crowded(out: &mut String, report: &Report, style: Style) {
     }
     line!(out, "    layer  from tile    to tile    used  capacity  overflow");
     for row in &report.most_crowded {
-        let tile = |[x, y]: [usize; 2]| format!("{x},{y}");
-        let over = if row.overflow > 0 { " !" } else { "" };
+        let over = mark(row.overflow);
         line!(
             out,
             "    {:>5}  {:<9} {:<2} {:<9} {:>5} {:>9} {:>9}{over}",
@@ -160,6 +167,54 @@ fn put_crowded(out: &mut String, report: &Report, style: Style) {
             g(row.capacity),
             g(row.overflow)
         );
+    }
+}
+
+/// Which layers the nets want, and how many of their edges the plan puts below these.
+fn put_wanted(out: &mut String, directives: &Directives) {
+    line!(out, "\n  layer directives: ldof {}", g(directives.ldof));
+    line!(out, "    below: edges that the plan puts below the lowest wanted layer of their net");
+    line!(out, "    excess: nets that must go without a track on a layer that they want, whatever the plan");
+    line!(out, "    low     nets      edges      below     excess");
+    for row in &directives.by_layer {
+        let over = mark(row.excess);
+        let (edges, below, excess) = (g(row.edges), g(row.below), g(row.excess));
+        line!(out, "    {:>3} {:>8} {edges:>10} {below:>10} {excess:>10}{over}", row.low, g(row.nets));
+    }
+}
+
+/// The edges whose nets want more tracks of some layers than there are.
+fn put_excess(out: &mut String, directives: &Directives, style: Style) {
+    line!(out, "\n  edges with most directive excess");
+    if directives.ldof == 0 {
+        line!(out, "    none: each net can have a track on a layer that it wants");
+        return;
+    }
+    line!(out, "    from tile    to tile    nets  below  excess");
+    for row in &directives.most_excess {
+        let (nets, below, excess) = (g(row.nets), g(row.below), g(row.excess));
+        line!(
+            out,
+            "    {:<9} {:<2} {:<9} {nets:>5} {below:>6} {excess:>7}{}",
+            tile(row.from),
+            style.arrow(),
+            tile(row.to),
+            mark(row.excess)
+        );
+    }
+}
+
+/// A tile as people write it.
+fn tile([x, y]: [usize; 2]) -> String {
+    format!("{x},{y}")
+}
+
+/// What stands behind a number that should be 0 and is not.
+fn mark(number: usize) -> &'static str {
+    if number > 0 {
+        " !"
+    } else {
+        ""
     }
 }
 

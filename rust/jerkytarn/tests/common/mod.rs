@@ -16,6 +16,9 @@ pub const EXAMPLE_PLAN: &str = concat!(env!("CARGO_MANIFEST_DIR"), "/../../examp
 pub const DIRECTED: &str = concat!(env!("CARGO_MANIFEST_DIR"), "/../../examples/directed.job");
 pub const DIRECTED_PLAN: &str = concat!(env!("CARGO_MANIFEST_DIR"), "/../../examples/directed.plan");
 
+pub const TIMING: &str = concat!(env!("CARGO_MANIFEST_DIR"), "/../../examples/timing.job");
+pub const TIMING_PLAN: &str = concat!(env!("CARGO_MANIFEST_DIR"), "/../../examples/timing.plan");
+
 /// The program.
 pub fn jerkytarn() -> Command {
     let mut command = Command::new(env!("CARGO_BIN_EXE_jerkytarn"));
@@ -125,6 +128,30 @@ pub fn with_line(text: &str, number: usize, line: &str) -> String {
 /// A drawn job text.
 pub fn drawn(seed: u64, kind: Option<Kind>, damage: Option<Damage>) -> Vec<u8> {
     second::gen::draw(seed, kind, damage).text
+}
+
+/// A job text with a `low` line put in behind every second `net` line that has none, its layers in turn.
+pub fn with_lows(job: &[u8]) -> Vec<u8> {
+    let lines: Vec<&[u8]> = job.split_inclusive(|byte| *byte == b'\n').collect();
+    let layers = lines.iter().find_map(|line| line.strip_prefix(b"layers=")).and_then(|value| value.first());
+    let layers = layers.map_or(1, |digit| usize::from(digit.saturating_sub(b'0')).max(1));
+    let mut out = Vec::new();
+    let mut nets = 0;
+    for (place, line) in lines.iter().enumerate() {
+        out.extend_from_slice(line);
+        if line.starts_with(b"net=") && lines.get(place + 1).is_some_and(|next| next.starts_with(b"pins=")) {
+            nets += 1;
+            if nets % 2 == 1 {
+                out.extend_from_slice(format!("low={}\n", (nets / 2) % layers + 1).as_bytes());
+            }
+        }
+    }
+    out
+}
+
+/// The number on the last line `ldof` of a printed plan.
+pub fn ldof(plan: &[u8]) -> Option<usize> {
+    text(plan).lines().last()?.strip_prefix("ldof=")?.parse().ok()
 }
 
 /// That the program answered as the library does: status and standard output.

@@ -6,9 +6,9 @@ use native.Mathlib.Nat.{div-eq-of-lt-le, div-le-self}
 use native.Mathlib.Omega.{arith}
 use Rattle.layout.specs.Shapes.{wayOf}
 use Rattle.scan.specs.Pins.{triple}
 use Rattle.ways.specs.Entry.{edgeOf, Placed, placed}
-use Rattle.order.proofs.edge_of.Statement.{statement}
-use Rattle.order.proofs.edge_of.Tie as tie
+use Rattle.ways.proofs.edge_of.Statement.{statement}
+use Rattle.ways.proofs.edge_of.Tie as tie
 
 at : (s : tie.Start) → Placed (s .args .g) (triple (s .args .x) (s .args .y) (s .args .d))
 at s = placed (s .args .g) (s .pre .0) (triple (s .args .x) (s .args .y) (s .args .d)) (s .pre .1 .1) (s .pre .1 .0)

@@ -7,11 +7,11 @@ use native.Mathlib.Omega.{arith}
 use lib.ListN.{length, take, drop, getD, replicate, length-replicate, getD-replicate}
 use borrow.Author.Needs.{needs}
 use borrow.Rule.Slice.PartMut.{putMid}
 use Rattle.layout.specs.Lent.{put-part, put-outside}
+use Rattle.layout.specs.Fill.{PartCleared}
 use Rattle.layout.specs.Parts.{part-at, part-long}
-use Rattle.nets.specs.Nets.{PartCleared}
-use Rattle.reader.proofs.clear_part.Statement.{statement}
-use Rattle.reader.proofs.clear_part.Tie as tie
+use Rattle.layout.proofs.clear_part.Statement.{statement}
+use Rattle.layout.proofs.clear_part.Tie as tie
 
 -- a part comes back as zeros
 module _ (a b : ℕ) (w : List ℕ) (rise : a ≤ b) (room : b ≤ length w) (p : List ℕ) (is : p ≡ replicate (length (take (b - a) (drop a w))) 0) where

@@ -1,0 +1,3 @@
+pub mod Falling
+pub mod Entries
+pub mod Nets
