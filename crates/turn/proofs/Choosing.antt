@@ -26,7 +26,7 @@ use Rattle.model.specs.Vias.{vias}
 use Rattle.theory.specs.links.Best.{LegalFor, inWalk, cheapest, to-walk, vias-cost, best-walk, best-is, legal-rising, legal-iff, legal-choice}
 use Rattle.theory.specs.links.Engine.{pinsAt, stopAt, pins-cover}
 use Rattle.theory.specs.links.Limits.{capacity-small, limit-small}
-use Rattle.theory.specs.links.Planned.{turn-legal}
+use Rattle.theory.specs.links.Planned.{stands, turn-legal}
 use Rattle.theory.specs.links.Tests.{is-true, has-in}
 use Rattle.tracks.specs.Legal.{legalMask, legal-in}
 use Rattle.tracks.specs.OccupiedAll.{layersAt, edgesOf, layersIn}
@@ -34,7 +34,7 @@ use Rattle.net.specs.Places.{SmallCapacities, small-capacities}
 use Rattle.turn.specs.Kept.{outside-low, so-far-low}
 use Rattle.turn.specs.Steps.{masksAt, engineOf, KnownEdges, legalAt, LegalPut}
 use Rattle.turn.specs.Turn.{Turn, turnNet, turnWalk, walkLayers, turnLimit, turnVias, NetWalked, NetChosen}
-use Rattle.turn.proofs.Net.{stands, net-ok, wide, high, as-long, edges-fit, walk-known}
+use Rattle.turn.proofs.Net.{net-ok, wide, high, as-long, edges-fit, walk-known}
 
 -- ---- lists
 

@@ -1,26 +1,19 @@
 -- The net whose turn it is: it is one that the reading lets pass, its walk has its edges, and its grid is that of the code.
 -- Assumes nothing.
-use mathlib.Core.List.{List, [], _∷_}
 use mathlib.Core.Path.{_≡_, ap₂, _∙_}
-use Prim.Native.Nat.{ℕ, zero, suc, _≤_, _<_}
+use Prim.Native.Nat.{ℕ, _≤_, _<_}
 use native.Mathlib.Omega.{arith}
-use lib.ListN.{length, getD}
+use lib.ListN.{length}
 use Rattle.layout.specs.Shapes.{Shaped}
 use Rattle.layout.specs.declared.Shape.{Shape}
 use Rattle.model.specs.Grid.{tiles, gridEdges}
 use Rattle.model.specs.Job.{tileCount, edgeCount}
 use Rattle.model.specs.Lists.{occurs, In}
-use Rattle.theory.specs.congestion.Sums.{in-head, in-tail}
 use Rattle.theory.specs.links.Best.{walk-once}
 use Rattle.theory.specs.links.Engine.{edges-few, walk-long}
 use Rattle.theory.specs.links.Nets.{NetOk, walk-edges}
 use Rattle.theory.specs.links.Planned.{turn-ok}
 use Rattle.turn.specs.Turn.{Turn, turnNet, turnWalk, OfJob}
-
-pub stands : (xs : List ℕ) (k : ℕ) → k < length xs → In (getD xs k 0) xs
-stands [] k h = absurd (omega arith)
-stands (x ∷ xs) zero h = in-head x xs
-stands (x ∷ xs) (suc k) h = in-tail (getD xs k 0) x xs (stands xs k (omega arith))
 
 module _ (u : Turn) where
   pub net-ok : NetOk (u .job .width) (u .job .height) (u .job .layers) (turnNet u)

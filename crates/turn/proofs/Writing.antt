@@ -14,6 +14,7 @@ use Rattle.marks.specs.Marks.{Older}
 use Rattle.model.specs.Lists.{In}
 use Rattle.model.specs.Plan.{layerOf, best}
 use Rattle.net.specs.SoFar.{SoFar}
+use Rattle.theory.specs.links.Planned.{stands}
 use Rattle.tracks.specs.OccupiedAll.{layersAt, edgesOf, layersIn, occupiedAll, CanTake, all-outside}
 use Rattle.tracks.specs.Turn.{turn-takes, turn-so-far}
 use Rattle.turn.specs.Chosen.{put-at, put-outside, layer-small, map-same}
@@ -21,7 +22,7 @@ use Rattle.turn.specs.Kept.{outside-low, so-far-low}
 use Rattle.turn.specs.Steps.{KnownEdges, putBy, chosenIn, listedLayers, CanAnswer}
 use Rattle.turn.specs.Turn.{Turn, turnNet, turnWalk, walkLayers, turnLayers, turnPlan, NetChosen, NetPlaced}
 use Rattle.turn.proofs.Choosing.{part-is}
-use Rattle.turn.proofs.Net.{stands, same-edges, edges-once, as-long, edges-are, edges-fit, edges-known, walk-known}
+use Rattle.turn.proofs.Net.{same-edges, edges-once, as-long, edges-are, edges-fit, edges-known, walk-known}
 
 module _ (g : Shape) (shaped : Shaped g) (n : ℕ) (w : List ℕ) (room : areasEnd g ≤ length w) (stamp : ℕ) (u : Turn) (h : NetChosen g stamp n w u) where
   fit : length (turnNet u .edges) < g .m

@@ -2,14 +2,15 @@
 -- line. Every line before it is then in order, and no row that is tested earlier fits the line.
 -- Assumes nothing.
 use mathlib.Core.Path.{_≡_, refl, sym, ap, _∙_, subst}
-use mathlib.Core.List.{List, [], _∷_, _++_}
+use mathlib.Core.List.{List, [], _∷_, _++_, append-nil}
 use mathlib.Core.Bool.{Bool, false}
 use mathlib.Core.Option.{Option, none, some}
 use mathlib.Core.Logic.{inl, inr, ⊎-elim, _↔_, _≢_}
 use Prim.Native.Nat.{ℕ, zero, suc, _+_, _-_, _*_, _≤_, _<_}
 use Prim.Native.String.{String}
 use native.Mathlib.Omega.{arith}
-use lib.ListN.{length}
+use lib.ListN.{length, length-append}
+use lib.Seq.{append-snoc}
 use Rattle.model.specs.Grid.{eastCount, northCount}
 use Rattle.model.specs.Job.{Pin, Net, Job, runs, entryCount}
 use Rattle.model.specs.Limits.{leastSide, mostSide, leastLayers, mostLayers, mostWeight, mostNets, mostText}
@@ -54,17 +55,8 @@ row-below [] n l w = nothing w
 row-below (r ∷ rs) zero l w = omega arith
 row-below (r ∷ rs) (suc n) l w = omega (arith, row-below rs n l w)
 
-append-none : (ns : List Net) → ns ++ [] ≡ ns
-append-none [] = refl
-append-none (n ∷ ns) = ap {B = List Net} (λ r. n ∷ r) (append-none ns)
-
-append-snoc : (ns : List Net) (n : Net) (ms : List Net) → ns ++ (n ∷ ms) ≡ (ns ++ (n ∷ [])) ++ ms
-append-snoc [] n ms = refl
-append-snoc (m ∷ ns) n ms = ap {B = List Net} (λ r. m ∷ r) (append-snoc ns n ms)
-
 length-snoc : (ns : List Net) (n : Net) → length (ns ++ (n ∷ [])) ≡ suc (length ns)
-length-snoc [] n = refl
-length-snoc (m ∷ ns) n = ap suc (length-snoc ns n)
+length-snoc ns n = omega (arith, length-append ns (n ∷ []))
 
 module _ (lent : Lent) (text : List ℕ) where
   -- the reading comes to the step t at the place q, with every line before in order
@@ -412,7 +404,7 @@ module _ (lent : Lent) (text : List ℕ) where
     nets-on : (earlier : List Net) (left : ℕ) {q : Place} → length earlier + left ≡ N → At (netsChain z (suc (length earlier)) left (ended z a b g cs N earlier)) q
         → q .line ≡ linesTo z earlier → ((ns : List Net) (r : Place) → r .line ≡ linesTo z ns → At (endChain lent N (jobOf z a b g cs ns)) r → End) → End
     nets-on earlier zero {q} n at e k =
-        let whole : earlier ++ [] ≡ earlier = append-none earlier in
+        let whole : earlier ++ [] ≡ earlier = append-nil earlier in
         k earlier q e (subst (λ (ns : List Net). At (endChain lent N (jobOf z a b g cs ns)) q) whole at)
     nets-on earlier (suc left) {q} n at e k =
         net-on z earlier net (omega arith) at (λ u q1 e1 a1.
@@ -447,7 +439,7 @@ module _ (lent : Lent) (text : List ℕ) where
         further x r c =
             subst (λ (m : ℕ). At (netsChain z (suc m) left (ended z a b g cs N (earlier ++ (x ∷ [])))) r) (sym (length-snoc earlier x))
             (subst (λ (f : List Net → Chain Job). At (netsChain z (suc (suc (length earlier))) left f) r)
-            (λ i others. endChain lent N (jobOf z a b g cs (append-snoc earlier x others i))) c)
+            (λ i others. endChain lent N (jobOf z a b g cs (sym (append-snoc earlier x others) i))) c)
 
   -- one test at the line read last
   test-on : (m : ℕ) {b : Bool} {Wrong : Type 0} {w : (b ≡ false) ↔ Wrong} {s : Chain Job} {q : Place} → At (tests (one m b Wrong w) s) q

@@ -1,7 +1,7 @@
 -- "The placing is untouched": scores, order, plan and all printed lines but `ldof` are those of the job without its `low` lines.
 -- Assumes nothing.
 use mathlib.Core.Path.{_≡_, refl, sym, ap, ap₂, _∙_}
-use mathlib.Core.List.{List, [], _∷_, _++_, map}
+use mathlib.Core.List.{List, [], _∷_, _++_, map, append-nil}
 use mathlib.Core.Bool.{Bool, true, false, cond}
 use mathlib.Core.Option.{none}
 use Prim.Native.Nat.{ℕ, zero, suc, _+_, _-_}
@@ -180,14 +180,10 @@ module _ (j : Job) (es : List Entry) (ys : List (List ℕ)) where
       ++ printLine "total_overflow" (total-unmarked i ∷ [])
       ++ printLine "max_overflow" (maximum-unmarked i ∷ [])
 
-append-none : (xs : List ℕ) → xs ++ [] ≡ xs
-append-none [] = refl
-append-none (x ∷ xs) = ap {B = List ℕ} (λ r. x ∷ r) (append-none xs)
-
 -- what is printed of a job without its `low` lines is what is printed of it, but for the line `ldof`
 pub printed-unmarked : (j : Job) → printed (unmarked j) (order (unmarked j)) (plan (unmarked j)) ≡ planLines j (order j) (plan j)
 unfolding printed
 printed-unmarked j =
     (λ i. planLines (unmarked j) (order-unmarked j i) (plan-unmarked j i) ++ cond (none-given (j .nets) i) (printLine "ldof" (ldof (unmarked j) ∷ [])) [])
-    ∙ append-none (planLines (unmarked j) (map plainEntry (order j)) (plan j))
+    ∙ append-nil (planLines (unmarked j) (map plainEntry (order j)) (plan j))
     ∙ lines-unmarked j (order j) (plan j)
