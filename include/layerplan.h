@@ -45,13 +45,14 @@ extern "C" {
  *   4        the line         net number out of turn
  *   5        the line         same tile and layer twice on `pins`
  *   6        the line         same edge twice on `edges`
- *   7        `edges` line     the net's edges contain a ring
- *   8        `edges` line     no ring, but a pin or edge not reached from the first pin's tile along the edges
+ *   8        `edges` line     a pin or edge not reached from the first pin's tile along the edges
  *   9        3 or 4           fewer working numbers than needed; 4 where line 4 begins `dirs=`
  *   10       `nets` line      fewer order entries than nets
  *   11       the last line    answer list or print buffer too short
  *   12       the line         a nonzero capacity on a layer that runs the other way
  *   13       `edges` line     an edge whose direction has no layer
+ *
+ * Number 7 no longer occurs: rings are cut (see layerplan_plan). 8 and 13 are judged before cutting.
  *
  * Lines count from 1; a missing line has the number that it would have had. The first line with a fault decides, and on
  * one line the lower number; but 13 wins over 11, which is found after the whole text.
@@ -78,8 +79,8 @@ typedef struct layerplan_entry {
 
 /*
  * The lengths that a job needs: W and H are its width and height, 1 to 64, K its layers, 2 to 8, N its nets, at most
- * 4,096, and A the number of entries on all its `edges` lines, at most a sixth of the length of its text. Longer buffers
- * are fine.
+ * 4,096, and A the number of entries on all its `edges` lines, those of dropped edges included, at most a sixth of the
+ * length of its text. Longer buffers are fine.
  */
 
 /* Working numbers: 2 x K x E + 2 x E + 32 x T, where T = W x H tiles and E = (W - 1) x H + W x (H - 1) edges. */
@@ -113,7 +114,12 @@ typedef struct layerplan_entry {
  *   work     working numbers. What they held is of no account. After every call, refused or not, all work_length of
  *            them are 0
  *   order    the order list: the nets with their lowest wanted layers and their scores, in placing order
- *   answer   the layers, 1 to K, nets in job order, each net's layers in the order of its `edges` line
+ *   answer   the layers, 1 to K, and 0 for a dropped edge; nets in job order, each net's layers in the order of its
+ *            `edges` line
+ *
+ * The edges of a net may contain rings; they are cut. Going along the `edges` line, an edge that closes a ring with kept
+ * earlier ones is dropped. In a net that lost an edge so, a tile with one kept edge and no pin then loses that edge, until
+ * none is left to lose. Every pin stays joined. Demand, overflow, scores, vias and `ldof` are those of the kept edges.
  *
  * An accepted job fills the first N entries of order and the first A bytes of answer; what lies beyond stays as it was.
  * A refused job leaves order and answer as they were.

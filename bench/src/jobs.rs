@@ -1,4 +1,4 @@
-//! The jobs: eight families at four sizes, those that show the growth, and heads alone. Each is made from a fixed seed.
+//! The jobs: nine families at four sizes, those that show the growth, and heads alone. Each is made from a fixed seed.
 //!
 //! From one size to the next the grid's tiles, the bytes of the text and, where it is given, the number of nets grow
 //! fourfold, up to the limits of document 01: 64 × 64 tiles, 8 layers, 4,096 nets, 1,048,576 bytes.
@@ -6,8 +6,8 @@
 use crate::MOST_CAPACITY;
 use second::gen::Rng;
 
-pub const FAMILIES: [&str; 8] =
-    ["congested", "plenty", "branches", "giant", "short", "directions", "wide", "directives"];
+pub const FAMILIES: [&str; 9] =
+    ["congested", "plenty", "branches", "giant", "short", "directions", "wide", "directives", "rings"];
 
 /// The family whose grids, nets and tracks the jobs of `directions` have: the two differ by the `dirs` line alone, and by
 /// the layers that the tracks are on.
@@ -119,9 +119,40 @@ fn tiles_of(side: usize, edges: &[Edge]) -> Vec<Tile> {
     tiles
 }
 
-/// The lines of a net: its edges in any order, and so many pins in its tiles.
-fn net(rng: &mut Rng, side: usize, number: usize, mut edges: Vec<Edge>, pins: usize) -> String {
+/// What a router leaves beside a tree: up to so many edges between its tiles, each of which closes a ring, and a tail.
+fn leftovers(rng: &mut Rng, side: usize, tree: &[Edge], rings: usize) -> Vec<Edge> {
+    let tiles = tiles_of(side, tree);
+    let mut inside = vec![false; side * side];
+    tiles.iter().for_each(|(x, y)| inside[y * side + x] = true);
+    let mut closing: Vec<Edge> = Vec::new();
+    for (x, y) in &tiles {
+        for (to, edge) in [((x + 1, *y), (*x, *y, true)), ((*x, y + 1), (*x, *y, false))] {
+            if to.0 < side && to.1 < side && inside[to.1 * side + to.0] && !tree.contains(&edge) {
+                closing.push(edge);
+            }
+        }
+    }
+    shuffle(rng, &mut closing);
+    closing.truncate(rings);
+    let mut tile = rng.pick(&tiles);
+    for _ in 0..rng.range(1, 8) {
+        let mut free = neighbours(side, tile);
+        free.retain(|(x, y)| !inside[y * side + x]);
+        if free.is_empty() {
+            break;
+        }
+        let next = rng.pick(&free);
+        inside[next.1 * side + next.0] = true;
+        closing.push(between(tile, next));
+        tile = next;
+    }
+    closing
+}
+
+/// The lines of a net: its edges in any order, and so many pins in its tiles; and `more` edges without pins of their own.
+fn net(rng: &mut Rng, side: usize, number: usize, mut edges: Vec<Edge>, pins: usize, more: Vec<Edge>) -> String {
     let mut tiles = tiles_of(side, &edges);
+    edges.extend(more);
     shuffle(rng, &mut edges);
     shuffle(rng, &mut tiles);
     let pin = |(x, y): &Tile| format!("{x},{y},{}", rng.range(1, LAYERS));
@@ -218,14 +249,14 @@ fn parts(family: &str, size: usize) -> (Tracks, String) {
     let side = 4 << size;
     let bytes = MOST_BYTES >> (2 * (4 - size));
     let tracks = tracks(rng, side, |rng| match family {
-        "congested" | "directives" => rng.range(0, 2),
+        "congested" | "directives" | "rings" => rng.range(0, 2),
         "plenty" => rng.range(30, 99),
         "wide" => of_digits(rng, 3, 5),
         _ => rng.range(0, 9),
     });
     let head = head(side, "", &tracks);
     let count = match family {
-        "congested" | "plenty" | "short" | "wide" | "directives" => 64 << (2 * (size - 1)),
+        "congested" | "plenty" | "short" | "wide" | "directives" | "rings" => 64 << (2 * (size - 1)),
         _ => 4096,
     };
     // what `nets` takes at most, and the `low` lines
@@ -234,7 +265,7 @@ fn parts(family: &str, size: usize) -> (Tracks, String) {
     let mut nets = Vec::new();
     while nets.len() < count {
         let edges = match family {
-            "congested" | "plenty" | "wide" | "directives" => {
+            "congested" | "plenty" | "wide" | "directives" | "rings" => {
                 // an entry has about 7.2 bytes at the largest size, and what else a net has about 50
                 let share = left.saturating_sub(300) / (count - nets.len());
                 let entry = if size < 3 { 6.2 } else { 7.3 };
@@ -262,7 +293,13 @@ fn parts(family: &str, size: usize) -> (Tracks, String) {
             "giant" => edges.len() / 16,
             _ => rng.range(2, 5),
         };
-        let net = net(rng, side, nets.len() + 1, edges, pins);
+        let more = if family == "rings" && rng.chance(1, 10) {
+            let rings = rng.range(1, 5);
+            leftovers(rng, side, &edges, rings)
+        } else {
+            Vec::new()
+        };
+        let net = net(rng, side, nets.len() + 1, edges, pins, more);
         if net.len() > left {
             break;
         }
@@ -278,7 +315,7 @@ pub fn growth(nets: usize, edges: usize) -> String {
     let mut text = head(64, "", &tracks(rng, 64, |rng| rng.range(0, 9))) + &format!("nets={nets}\n");
     for number in 1..=nets {
         let tree = grown(rng, 64, edges, false);
-        text += &net(rng, 64, number, tree, 3);
+        text += &net(rng, 64, number, tree, 3, Vec::new());
     }
     assert!(text.len() <= MOST_BYTES, "{} bytes", text.len());
     text

@@ -1,11 +1,11 @@
 //! The proved planner held against two planners in Rust, on jobs made by fixed seeds.
 //!
-//! - `jobs`: the jobs, in seven families at four sizes, those that show the growth, and heads alone.
+//! - `jobs`: the jobs, in nine families at four sizes, those that show the growth, and heads alone.
 //! - `proved`: the proved planner, from its static library.
 //! - `plain`: the paper's algorithm written plainly.
 //! - `optimised`: a planner written for speed.
 //!
-//! The last two know `dirs` of the optional lines, and end with a message where they meet another
+//! The last two cut rings, know `dirs` and `low` of the optional lines, and end with a message where they meet another
 //! (`no_optional_lines`). What follows every change is the second implementation, `tests/second`.
 
 pub mod jobs;

@@ -6,6 +6,7 @@
 //! Places are not tested where the reading has shown that they are inside; a build with debug assertions tests them all.
 
 use crate::{refused, Lent, Returned, MOST_CAPACITY};
+use second::plan::Entry;
 
 struct Refusal(u64, u64);
 
@@ -133,8 +134,22 @@ struct Kept {
     number: u32,
 }
 
-/// The lowest wanted layer of a net stands above its pins' tiles, 0 where it has no `low` line.
+/// The lowest wanted layer of a net stands above its pins' tiles, 0 where it has no `low` line; above it, whether the net has
+/// a ring.
 const LOW: u32 = 16;
+const RINGED: u32 = 1 << 20;
+
+impl Kept {
+    #[inline(always)]
+    fn low(self) -> u32 {
+        self.number >> LOW & 15
+    }
+
+    #[inline(always)]
+    fn ringed(self) -> bool {
+        self.number & RINGED != 0
+    }
+}
 
 // ---- reading: the text ends with byte 10, so that no number runs over its end
 
@@ -337,10 +352,11 @@ impl Reader<'_> {
         Ok(tiles)
     }
 
-    /// The `edges` line of a net whose pins lie in so many tiles: how many edges there are.
+    /// The `edges` line of a net whose pins lie in so many tiles: how many edges there are, with `RINGED` where some close a
+    /// ring.
     #[inline(never)]
     fn edges(&mut self, w: &mut Work, g: Shape, base: u32, tiles: u32) -> Result<u32, Refusal> {
-        let (mut worst, mut edges, mut parts) = (u64::MAX, 0, tiles);
+        let (mut worst, mut edges, mut tiles, mut joins) = (u64::MAX, 0, tiles, 0);
         if at(self.text, self.at) == b'\n' {
             self.at += 1;
         } else {
@@ -365,18 +381,16 @@ impl Reader<'_> {
                     if old & (EAST << north) != 0 {
                         worst = worst.min(6);
                     } else {
-                        parts += u32::from(old == base);
+                        tiles += u32::from(old == base);
                         *of(w.marks, here) = old | EAST << north;
                         let old = at(w.marks, there).max(base);
-                        parts += u32::from(old == base);
+                        tiles += u32::from(old == base);
                         *of(w.marks, there) = old | EAST << (north + 2);
                         of(w.flat, 2 * here + north)[0] += 1;
                         let (a, b) = (root(w.links, base, here), root(w.links, base, there));
-                        if a == b {
-                            worst = worst.min(7);
-                        } else {
+                        if a != b {
                             *of(w.links, a.min(b)) = base + a.max(b) as u32;
-                            parts -= 1;
+                            joins += 1;
                         }
                     }
                 } else {
@@ -390,10 +404,11 @@ impl Reader<'_> {
         if worst < u64::MAX {
             return self.refusal(worst);
         }
-        if parts != 1 {
+        if tiles != joins + 1 {
             return self.refusal(8);
         }
-        Ok(edges)
+        // an edge that joins no two parts closes a ring
+        Ok(if edges > joins { edges | RINGED } else { edges })
     }
 }
 
@@ -427,17 +442,22 @@ fn root(links: &mut [u32], base: u32, tile: usize) -> usize {
 /// a `low` line. The nets are counted by edge and layer in the place of the rows, which are not in use before the first turn.
 /// A layer has no more tracks here than there can be nets, so the sum is that over all of them.
 #[inline(never)]
-fn ldof(text: &[u8], table: &[Kept], w: &mut Work, g: Shape) -> Option<u64> {
-    if table.iter().all(|kept| kept.number >> LOW == 0) {
+fn ldof(text: &[u8], table: &[Kept], w: &mut Work, g: Shape, answer: &[u8]) -> Option<u64> {
+    if table.iter().all(|kept| kept.low() == 0) {
         return None;
     }
     let edges = w.tracks.len();
     // SAFETY: eight numbers of 16 bits for each edge take as many bytes as the rows of half as many tiles, and need less alignment.
     let wanted: &mut [[u16; 8]] = unsafe { std::slice::from_raw_parts_mut(w.rows.as_mut_ptr().cast(), edges) };
     for kept in table {
-        let low = (kept.number >> LOW) as usize;
+        let low = kept.low() as usize;
         if low > 1 {
-            known_edges(text, kept.edges as usize, g.width, |tile, north| of(wanted, 2 * tile + north)[low - 1] += 1);
+            let mut add = |tile: usize, north: usize| of(wanted, 2 * tile + north)[low - 1] += 1;
+            if kept.ringed() {
+                kept_edges(text, *kept, g.width, answer, add);
+            } else {
+                known_edges(text, kept.edges as usize, g.width, &mut add);
+            }
         }
     }
     let mut sum = 0;
@@ -479,6 +499,119 @@ fn known_edges(text: &[u8], from: usize, width: usize, mut each: impl FnMut(usiz
             return;
         }
     }
+}
+
+/// The same of the kept edges of a net with a ring: in its stretch of the answer list stands 1 for each of them, and 0 for the
+/// others.
+#[cold]
+fn kept_edges(text: &[u8], kept: Kept, width: usize, answer: &[u8], mut each: impl FnMut(usize, usize)) {
+    let mut place = kept.first as usize;
+    known_edges(text, kept.edges as usize, width, |tile, north| {
+        if answer[place] > 0 {
+            each(tile, north);
+        }
+        place += 1;
+    });
+}
+
+/// The tile at the far end of an edge.
+fn far(here: usize, north: usize, width: usize) -> usize {
+    if north == 1 {
+        here + width
+    } else {
+        here + 1
+    }
+}
+
+/// Marks an edge.
+fn mark_edge(w: &mut Work, width: usize, base: u32, here: usize, north: usize) {
+    for (tile, way) in [(here, north), (far(here, north, width), north + 2)] {
+        w.marks[tile] = w.marks[tile].max(base) | EAST << way;
+    }
+}
+
+/// Marks the pins of a net. The lowest of their tiles.
+fn mark_pins(text: &[u8], kept: Kept, w: &mut Work, g: Shape, base: u32) -> usize {
+    let mut low = usize::MAX;
+    let mut place = kept.pins as usize;
+    loop {
+        let (x, next) = known(text, place);
+        let (y, next) = known(text, next);
+        let tile = y * g.width + x;
+        w.marks[tile] = w.marks[tile].max(base) | 1 << (at(text, next) - b'1');
+        low = low.min(tile);
+        place = next + 2;
+        if at(text, next + 1) == b'\n' {
+            return low;
+        }
+    }
+}
+
+/// Cuts a net with a ring: takes what is dropped from the demand, and puts for each entry into `answer` whether it is kept.
+#[cold]
+fn cut(text: &[u8], kept: Kept, w: &mut Work, g: Shape, base: u32, answer: &mut [u8]) {
+    mark_pins(text, kept, w, g, base);
+    let edges = kept.edges as usize;
+    known_edges(text, edges, g.width, |here, north| {
+        let (a, b) = (root(w.links, base, here), root(w.links, base, far(here, north, g.width)));
+        if a != b {
+            w.links[a.min(b)] = base + a.max(b) as u32;
+            mark_edge(w, g.width, base, here, north);
+        }
+    });
+    known_edges(text, edges, g.width, |here, north| {
+        lose(w, g.width, here);
+        lose(w, g.width, far(here, north, g.width));
+    });
+    let mut place = 0;
+    known_edges(text, edges, g.width, |here, north| {
+        answer[place] = u8::from(w.marks[here] & EAST << north != 0);
+        w.flat[2 * here + north][0] -= u32::from(answer[place] == 0);
+        place += 1;
+    });
+}
+
+/// From a tile with one way and no pin on, along the edges that are lost.
+fn lose(w: &mut Work, width: usize, from: usize) {
+    let mut tile = from;
+    loop {
+        let (ways, pins) = (w.marks[tile] >> 8 & 15, w.marks[tile] & 255);
+        if ways.count_ones() != 1 || pins != 0 {
+            return;
+        }
+        let way = ways.trailing_zeros();
+        w.marks[tile] &= !(EAST << way);
+        tile = match way {
+            0 => tile + 1,
+            1 => tile + width,
+            2 => tile - 1,
+            _ => tile - width,
+        };
+        w.marks[tile] &= !(EAST << ((way + 2) & 3));
+    }
+}
+
+/// Marks a net with a ring by what `cut` left in the answer list. The lowest tile of what is kept.
+#[cold]
+fn mark_kept(text: &[u8], kept: Kept, w: &mut Work, g: Shape, base: u32, answer: &[u8]) -> usize {
+    let mut low = mark_pins(text, kept, w, g, base);
+    kept_edges(text, kept, g.width, answer, |here, north| {
+        mark_edge(w, g.width, base, here, north);
+        low = low.min(here);
+    });
+    low
+}
+
+/// Writes the layers of a net with a ring over what `cut` left in the answer list.
+#[cold]
+fn write_kept(text: &[u8], kept: Kept, w: &Work, g: Shape, answer: &mut [u8]) {
+    let mut place = kept.first as usize;
+    known_edges(text, kept.edges as usize, g.width, |tile, north| {
+        if answer[place] > 0 {
+            answer[place] = w.chosen[2 * tile + north] + 1;
+        }
+        place += 1;
+    });
 }
 
 /// Marks the net's pins and edges, and lists its edges. Its lowest tile.
@@ -848,7 +981,7 @@ fn run(text: &[u8], lent: Lent) -> Result<Returned, Refusal> {
         return reader.refusal(10);
     }
     let mut table = [Kept::default(); MOST_NETS + 1];
-    let mut entries = 0;
+    let (mut entries, mut rings) = (0, 0);
     for net in 0..count {
         if reader.number(b"net=")? != net + 1 {
             return reader.refusal(4);
@@ -863,7 +996,10 @@ fn run(text: &[u8], lent: Lent) -> Result<Returned, Refusal> {
         reader.key(b"edges=")?;
         kept.edges = reader.at as u32;
         kept.first = entries;
-        entries += reader.edges(w, g, base, tiles)?;
+        let line = reader.edges(w, g, base, tiles)?;
+        kept.number |= line & RINGED;
+        rings |= line;
+        entries += line & (RINGED - 1);
         // where all layers run one way, the line is gone over once more
         if open.contains(&0) && !have_layers(text, kept.edges as usize, g) {
             return reader.refusal(13);
@@ -879,22 +1015,55 @@ fn run(text: &[u8], lent: Lent) -> Result<Returned, Refusal> {
         return reader.refusal(11);
     }
 
-    // the order: the highest score first, of equal ones the lowest number
     let order = &mut order[..count];
+    let weights = [alpha, beta, gamma];
+    if rings & RINGED == 0 {
+        return Ok(planned::<false>(text, &mut table, w, g, weights, order, answer, print));
+    }
+    // until a net's turn the answer list has which of its edges are kept
+    for net in (0..count).filter(|net| table[*net].ringed()) {
+        let (kept, end) = (table[net], table[net + 1].first as usize);
+        cut(text, kept, w, g, ((count + 1 + net) as u32) << STAMP, &mut answer[kept.first as usize..end]);
+    }
+    Ok(planned::<true>(text, &mut table, w, g, weights, order, answer, print))
+}
+
+/// The plan of an accepted job. Nets with rings are cut already, where there are `RINGS`.
+#[allow(clippy::too_many_arguments)]
+#[inline(always)]
+fn planned<const RINGS: bool>(
+    text: &[u8],
+    table: &mut [Kept],
+    w: &mut Work,
+    g: Shape,
+    [alpha, beta, gamma]: [u64; 3],
+    order: &mut [Entry],
+    answer: &mut [u8],
+    print: Option<&mut [u8]>,
+) -> Returned {
+    let (count, width, layers) = (order.len(), g.width, g.layers);
+    // the order: the highest score first, of equal ones the lowest number
     for net in 0..count {
-        let kept = at(&table, net);
-        let length = u64::from(at(&table, net + 1).first - kept.first);
+        let kept = at(table, net);
+        let mut length = u64::from(at(table, net + 1).first - kept.first);
         let (mut d, mut c) = (0, 0);
-        if gamma > 0 {
-            known_edges(text, kept.edges as usize, width, |tile, north| {
-                let [demand, capacity] = at(w.flat, 2 * tile + north);
-                d += u64::from(demand);
-                c += u64::from(capacity);
+        let mut add = |tile: usize, north: usize| {
+            let [demand, capacity] = at(w.flat, 2 * tile + north);
+            d += u64::from(demand);
+            c += u64::from(capacity);
+        };
+        if RINGS && kept.ringed() {
+            length = 0;
+            kept_edges(text, kept, width, answer, |tile, north| {
+                length += 1;
+                add(tile, north);
             });
+        } else if gamma > 0 {
+            known_edges(text, kept.edges as usize, width, add);
         }
         let score =
             1000 * alpha / length.max(1) + 1000 * beta * u64::from(kept.number & 0xffff) + 1000 * gamma * d / c.max(1);
-        order[net].low = (kept.number >> LOW).max(1);
+        order[net].low = kept.low().max(1);
         order[net].score = score << 12 | (4095 - net as u64);
     }
     order.sort_unstable_by(|a, b| b.score.cmp(&a.score));
@@ -903,7 +1072,7 @@ fn run(text: &[u8], lent: Lent) -> Result<Returned, Refusal> {
         entry.score >>= 12;
     }
 
-    let last = if print.is_some() { ldof(text, &table[..count], w, g) } else { None };
+    let last = if print.is_some() { ldof(text, &table[..count], w, g, answer) } else { None };
 
     let (mut total, mut most) = (0, [0; 2]);
     for pair in w.flat.chunks_exact_mut(2) {
@@ -919,14 +1088,23 @@ fn run(text: &[u8], lent: Lent) -> Result<Returned, Refusal> {
     let mut vias = 0;
     for (turn, entry) in order.iter().enumerate() {
         let net = entry.net as usize - 1;
-        let kept = at(&table, net);
-        let low = mark(text, kept, w, g, ((count + 1 + turn) as u32) << STAMP);
+        let kept = at(table, net);
+        let base = ((2 * count + 1 + turn) as u32) << STAMP;
+        let ringed = RINGS && kept.ringed();
+        let low = match ringed {
+            false => mark(text, kept, w, g, base),
+            true => mark_kept(text, kept, w, g, base, answer),
+        };
         let tiles = walk(w, width, low);
         fill_rows(w, tiles, limits.map(|limit| limit as i16));
         let cost = choose(w, tiles, layers);
-        of(&mut table, net).number = cost;
+        of(table, net).number = cost;
         vias += u64::from(cost);
-        let (from, to) = (kept.first as usize, at(&table, net + 1).first as usize);
+        if ringed {
+            write_kept(text, kept, w, g, answer);
+            continue;
+        }
+        let (from, to) = (kept.first as usize, at(table, net + 1).first as usize);
         for (layer, edge) in answer[from..to].iter_mut().zip(w.list.iter()) {
             *layer = at(w.chosen, *edge as usize) + 1;
         }
@@ -961,7 +1139,7 @@ fn run(text: &[u8], lent: Lent) -> Result<Returned, Refusal> {
         }
         length = writer.at as u64;
     }
-    Ok(Returned { number: 0, line: 0, vias, total, maximum: u64::from(maximum), length })
+    Returned { number: 0, line: 0, vias, total, maximum: u64::from(maximum), length }
 }
 
 /// Plan, or Print where a print buffer is lent.

@@ -12,7 +12,17 @@ struct Net {
     low: Option<usize>,
     /// Tile and layer.
     pins: Vec<(usize, usize)>,
+    /// The kept edges, in the order of the line.
     edges: Vec<usize>,
+    /// All edges of the line, where some of them are dropped.
+    entries: Option<Vec<usize>>,
+}
+
+impl Net {
+    /// The edges of the line, dropped or not.
+    fn entries(&self) -> &[usize] {
+        self.entries.as_ref().unwrap_or(&self.edges)
+    }
 }
 
 /// Edges are numbered in the order of the capacity lines: first all east ones, then all north ones.
@@ -223,7 +233,8 @@ impl<'a> Reader<'a> {
         Ok(pins)
     }
 
-    fn edges(&mut self, grid: Grid, dirs: Option<&Dirs>, pins: &[(usize, usize)]) -> Result<Vec<usize>, Refusal> {
+    /// The kept edges, and all of them where some are dropped.
+    fn edges(&mut self, grid: Grid, dirs: Option<&Dirs>, pins: &[(usize, usize)]) -> Result<Edges, Refusal> {
         let value = self.value(b"edges=")?;
         let mut list = Vec::new();
         for entry in entries(value, b';') {
@@ -257,11 +268,12 @@ impl<'a> Reader<'a> {
             }
             tile
         }
-        for edge in &edges {
+        let mut closing = Vec::new();
+        for (place, edge) in edges.iter().enumerate() {
             let (a, b) = grid.ends(*edge);
             let (a, b) = (root(&mut parent, a), root(&mut parent, b));
             if a == b {
-                return Err(self.refusal(7));
+                closing.push(place);
             }
             parent[a] = b;
         }
@@ -276,8 +288,41 @@ impl<'a> Reader<'a> {
         if edges.iter().any(no_layer) {
             return Err(self.refusal(13));
         }
-        Ok(edges)
+        if closing.is_empty() {
+            return Ok((edges, None));
+        }
+        Ok((cut(grid, pins, &edges, &closing), Some(edges)))
     }
+}
+
+type Edges = (Vec<usize>, Option<Vec<usize>>);
+
+/// The edges that are kept where those at the places `closing` are dropped: not what then hangs loose.
+fn cut(grid: Grid, pins: &[(usize, usize)], edges: &[usize], closing: &[usize]) -> Vec<usize> {
+    let mut there = vec![false; grid.edges()];
+    for edge in edges {
+        there[*edge] = true;
+    }
+    for place in closing {
+        there[edges[*place]] = false;
+    }
+    let mut pinned = vec![false; grid.tiles()];
+    for (tile, _) in pins {
+        pinned[*tile] = true;
+    }
+    for edge in edges {
+        let (a, b) = grid.ends(*edge);
+        for mut tile in [a, b] {
+            // from a loose end on along the edges that are lost
+            while !pinned[tile] {
+                let around = (0..4).filter_map(|way| grid.way(tile, way)).filter(|(_, edge)| there[*edge]);
+                let [(next, edge)] = around.collect::<Vec<_>>()[..] else { break };
+                there[edge] = false;
+                tile = next;
+            }
+        }
+    }
+    edges.iter().copied().filter(|edge| there[*edge]).collect()
 }
 
 fn read(text: &[u8], work: usize, order: usize, answer: usize, print: Option<usize>) -> Result<Job, Refusal> {
@@ -317,9 +362,10 @@ fn read(text: &[u8], work: usize, order: usize, answer: usize, print: Option<usi
         }
         let low = reader.low(layers)?;
         let pins = reader.pins(grid, layers)?;
-        let edges = reader.edges(grid, dirs.as_ref(), &pins)?;
-        total += edges.len();
-        nets.push(Net { low, pins, edges });
+        let (edges, entries) = reader.edges(grid, dirs.as_ref(), &pins)?;
+        let net = Net { low, pins, edges, entries };
+        total += net.entries().len();
+        nets.push(net);
     }
     if reader.at < text.len() {
         reader.line += 1;
@@ -456,6 +502,9 @@ fn plan(job: &Job, lent: Lent) -> Returned {
     let mut by_edge = vec![0u8; grid.edges()];
     for (_, place) in &list {
         let net = &job.nets[*place];
+        for edge in net.entries.iter().flatten() {
+            by_edge[*edge] = 0;
+        }
         let steps = walk(grid, net);
         let mut table = vec![[Best { vias: ILLEGAL, layers: [0; 3] }; 9]; steps.len()];
         for at in (1..steps.len()).rev() {
@@ -481,7 +530,7 @@ fn plan(job: &Job, lent: Lent) -> Returned {
                 by_edge[steps[*branch].edge] = layer;
             }
         }
-        chosen[*place] = net.edges.iter().map(|edge| by_edge[*edge]).collect();
+        chosen[*place] = net.entries().iter().map(|edge| by_edge[*edge]).collect();
     }
 
     for (place, (score, net)) in list.iter().enumerate() {

@@ -86,7 +86,7 @@ JOBS = [
      {"order": [(1, 1, 666), (2, 1, 666)]}),
     ("C9", text_of(header_lines(2, 1, 2, 0, 0, 1, [("0", "")] * 2) + net_lines(*[("0,0,1", "0,0,e")] * 3)),
      {"order": [(1, 1, 3000), (2, 1, 3000), (3, 1, 3000)]}),
-    ("C10, ring", square("0,0,e;0,0,n;1,0,n;0,1,e"), (7, 14)),
+    ("C10, ring", square("0,0,e;0,0,n;1,0,n;0,1,e"), {"plan": [[1, 1, 1, 0]], "vias": 0}),
     ("C10, without south", square("0,0,n;1,0,n;0,1,e"), {}),
     ("C10, without west", square("0,0,e;1,0,n;0,1,e"), {}),
     ("C10, without east", square("0,0,e;0,0,n;0,1,e"), {}),
@@ -139,7 +139,7 @@ FIRST_FAULTS = [
     ("edges: twice before a ring", square("0,0,e;0,0,n;1,0,n;0,1,e;0,0,e"), ROOMY, (6, 14)),
     ("edges: a ring apart from the pins", text_of(
         header_lines(3, 2, 2, 1, 1, 0, [("1,1,1,1", "1,1,1")] * 2)
-        + net_lines(("0,0,1", "1,0,e;1,0,n;2,0,n;1,1,e"))), ROOMY, (7, 14)),
+        + net_lines(("0,0,1", "1,0,e;1,0,n;2,0,n;1,1,e"))), ROOMY, (8, 14)),
     ("edges: an edge apart from the first pin", square("0,1,e", "0,0,1"), ROOMY, (8, 14)),
     ("pins in two tiles and no edge", square("", "0,0,1;1,0,1"), ROOMY, (8, 14)),
     ("8 before 11", square("", "0,0,1;1,0,1"), Lent(100_000, 4, 0, 0), (8, 14)),
@@ -309,8 +309,50 @@ DIRECTIVES = [
     ("10 before `low`", marked(C1, 0), Lent(100_000, 1, 0, 0), (10, 11)),
 ]
 
+
+# ---- S-6 of document 02
+
+def six_tiles(*nets, lows=()):
+    """Six tiles, three in a row, with one track on each layer of each edge."""
+    return text_of(header_lines(3, 2, 2, 1, 1, 1, [("1,1,1,1", "1,1,1")] * 2) + net_lines(*nets, lows=lows))
+
+
+SQUARE = "0,0,e;1,0,n;0,1,e;0,0,n"
+TAIL = "1,0,e;2,0,n"
+CORNERS = "0,0,1;1,0,1;0,1,1;1,1,1"
+ALL = "0,0,1;1,0,1;2,0,1;0,1,1;1,1,1;2,1,1"
+TWO = "0,0,e;0,0,n;0,1,e;1,0,n;1,0,e;2,0,n;1,1,e"
+ONE_PIN = "order=1\nnet=1\nvias=1\nlayers=0,0,0,0\ntotal_vias=1\ntotal_overflow=0\nmax_overflow=0\n"
+ACROSS = directed(text_of(header_lines(2, 2, 2, 1, 1, 0, [("1,1", "0,0")] * 2) + net_lines(("0,0,1;1,0,1", SQUARE))), b"h,h")
+
+RINGS = [
+    ("the edge that closes the ring", six_tiles((CORNERS, SQUARE)), ROOMY, {"plan": [[1, 1, 1, 0]]}),
+    ("the other way round", six_tiles((CORNERS, "0,0,n;0,1,e;1,0,n;0,0,e")), ROOMY, {"plan": [[1, 1, 1, 0]]}),
+    ("an entry before the ring", six_tiles((CORNERS + ";2,0,1", "1,0,e;" + SQUARE)), ROOMY, {"plan": [[1, 1, 1, 1, 0]]}),
+    ("an entry behind the ring", six_tiles((CORNERS + ";2,0,1", SQUARE + ";1,0,e")), ROOMY, {"plan": [[1, 1, 1, 0, 1]]}),
+    ("what then hangs loose", six_tiles(("0,0,1;1,1,1", SQUARE)), ROOMY, {"plan": [[1, 1, 0, 0]]}),
+    ("the lowest tile goes", six_tiles(("1,0,1;1,1,1", SQUARE)), ROOMY, {"plan": [[0, 1, 0, 0]], "walks": [[5]]}),
+    ("a ring with one pin", six_tiles(("1,1,1;1,1,2", SQUARE)), PROGRAM_LENT, {"order": [(1, 1, 2000)], "text": ONE_PIN, "walks": [[]]}),
+    ("two rings that share an edge", six_tiles((ALL, TWO)), ROOMY, {"plan": [[1, 1, 1, 0, 1, 1, 0]]}),
+    ("two rings and two pins", six_tiles(("0,1,1;2,0,1", TWO)), ROOMY, {"plan": [[1, 1, 0, 0, 1, 0, 0]]}),
+    ("a tail without a pin", six_tiles(("0,0,1;1,1,1", SQUARE + ";" + TAIL)), ROOMY, {"plan": [[1, 1, 0, 0, 0, 0]]}),
+    ("a pin in the middle of the tail", six_tiles(("0,0,1;1,1,1;2,0,1", SQUARE + ";" + TAIL)), ROOMY, {"plan": [[1, 1, 0, 0, 1, 0]]}),
+    ("the same tail without a ring", six_tiles(("0,0,1", "0,0,e;" + TAIL)), ROOMY, {"plan": [[1, 1, 1]]}),
+    ("score and demand after the cut", six_tiles(("0,0,1;1,0,1", SQUARE), ("0,0,1;0,1,1", "0,0,n")), ROOMY,
+     {"order": [(1, 1, 3500), (2, 1, 3500)], "plan": [[1, 0, 0, 0], [1]], "total": 0}),
+    ("directives after the cut", six_tiles(*[("0,0,1;1,0,1", SQUARE)] * 2, lows=[2, 2]), ROOMY,
+     {"ldof": 1, "plan": [[1, 0, 0, 0], [2, 0, 0, 0]]}),
+    ("6 where the second closes a ring", six_tiles((CORNERS, SQUARE + ";0,0,n")), ROOMY, (6, 14)),
+    ("8 beside a ring", six_tiles(("0,0,1;2,0,1", SQUARE)), ROOMY, (8, 14)),
+    ("8: an edge apart from a ring", six_tiles(("0,0,1", SQUARE + ";2,0,n")), ROOMY, (8, 14)),
+    ("13 before cutting", ACROSS, ROOMY, (13, 15)),
+    ("A counts dropped edges", six_tiles(("1,1,1", SQUARE)), Lent(234, 1, 3, None), (11, 14)),
+    ("just enough for a ring", six_tiles(("1,1,1", SQUARE)), Lent(234, 1, 4, 328), {"plan": [[0, 0, 0, 0]]}),
+    ("print buffer too short for a ring", six_tiles(("1,1,1", SQUARE)), Lent(234, 1, 4, 327), (11, 14)),
+]
+
 BENCH = ([Bench(name, text, PROGRAM_LENT, said) for name, text, said in JOBS + TRACKS]
-         + [Bench(name, text, lent, said) for name, text, lent, said in FIRST_FAULTS + DIRECTIONS + DIRECTIVES])
+         + [Bench(name, text, lent, said) for name, text, lent, said in FIRST_FAULTS + DIRECTIONS + DIRECTIVES + RINGS])
 
 
 def as_said(bench, result):

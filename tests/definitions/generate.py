@@ -521,6 +521,28 @@ def ring(rng):
     return draft.text(), program_or_plan(rng)
 
 
+def tiles_of(edges):
+    """The tiles that edges join."""
+    return sorted({end for x, y, way in edges for end in ((x, y), (x + 1, y) if way == "e" else (x, y + 1))})
+
+
+def ringed(rng):
+    """A net that hangs together and has a ring: round four tiles or six, with up to two edges more beside it, and one to three pins."""
+    draft = draft_with(rng, lambda draft: draft.nets and draft.width > 1 and draft.height > 1 and draft.layers < 4)
+    pins, edges = rng.choice(draft.nets)
+    x, y = rng.randrange(draft.width - 1), rng.randrange(draft.height - 1)
+    shape = block(x, y) if x + 2 < draft.width and draft.layers == 2 and rng.random() < 0.3 else square(x, y)
+    for _ in range(rng.choice([0, 1, 1, 2])):
+        tiles = tiles_of(shape)
+        beside = [edge for edge in grid_edges(draft.width, draft.height) if edge not in shape and any(end in tiles for end in tiles_of([edge]))]
+        shape += [rng.choice(beside)] if beside else []
+    rng.shuffle(shape)
+    edges[:] = shape
+    chosen = rng.sample(tiles_of(shape), rng.choice([1, 2, 2, 3]))
+    pins[:] = [(*tile, rng.randint(1, draft.layers)) for tile in chosen]
+    return draft.text(), program_or_plan(rng)
+
+
 def apart(rng):
     """A net with an edge more or less, or a pin more: it may no longer hang together."""
     draft = draft_with(rng, lambda draft: draft.nets and draft.width * draft.height > 1)
@@ -554,9 +576,9 @@ def two_faults(rng):
 
 
 # The ways, taken in turn. Plain jobs are many, since their order lists, plans and prints are compared.
-WAYS = [plain, cut, crowd, short_lent, changed_byte, program_job, changed_line, ring, tree, changed_number, apart, crowd,
+WAYS = [plain, cut, crowd, short_lent, changed_byte, program_job, changed_line, ring, tree, changed_number, apart, ringed, crowd,
         changed_dirs, range_end, changed_low, out_of_turn, program_job, changed_pins, short_at_the_end, across, plain, changed_edges, apart,
-        tree, text_after, changed_capacities, no_layer, plain, two_faults, ring, crowd]
+        tree, text_after, changed_capacities, no_layer, plain, two_faults, ring, crowd, ringed]
 
 
 def random_cases(seed, count):

@@ -26,16 +26,16 @@ SHAPES = {
     "lent": "record {{ working = {}; order = {}; answer = {}; print = {} }}",
     "entry": "record {{ net = {}; low = {}; score = {} }}",
     "refusal": "refusal {} {}",
-    "accepted": "accepted (record {{ order = {}; plan = {}; vias = {}; total = {}; maximum = {}; text = {} }})",
+    "accepted": "accepted (record {{ order = {}; layers = {}; vias = {}; total = {}; maximum = {}; text = {} }})",
     "outcome": "outcome ({lent}) ({text})",
     "program": "program ({text})",
     "walks": "walks (read ({lent}) ({text}))",
 }
 
-# What the scratch crate defines itself: the edges of each net of an accepted job in walk order. (No outcome shows the walk: the
+# What the scratch crate defines itself: the kept edges of each net of an accepted job in walk order. (No outcome shows the walk: the
 # cheapest legal layerings are closed under taking the lower layer at each edge, so that every order of the edges has the same
 # first one.)
-OWN = """-- the edges of each net in walk order, by edge number
+OWN = """-- the kept edges of each net in walk order, by edge number
 abbrev walks : Result Job → List (List ℕ)
 walks (refused n l) = []
 walks (found j p) = map (walk j) (j .nets)

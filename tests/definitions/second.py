@@ -22,8 +22,8 @@ Refusal = namedtuple("Refusal", "number line")
 
 class Accepted(namedtuple("Accepted", "order plan vias total maximum text walks brute")):
     """What an accepted job leads to: `order` holds the entries of the order list, (net number, lowest wanted layer, score); `plan` each
-    net's layers in the order of its `edges` line, nets in job order; `text` is the print; `walks` are each net's edges in walk order,
-    by edge number; `brute` says whether the plan was held to demand 3 over all layerings of the job."""
+    net's layers in the order of its `edges` line, 0 for a dropped edge, nets in job order; `text` is the print; `walks` are each net's
+    kept edges in walk order, by edge number; `brute` says whether the plan was held to demand 3 over all layerings of the job."""
 
     @property
     def ldof(self):
@@ -32,8 +32,8 @@ class Accepted(namedtuple("Accepted", "order plan vias total maximum text walks 
         return int(number) if key == "ldof" else None
 
 
-# The numbers in the table of refusals.
-NUMBERS = range(1, 14)
+# The numbers in the table of refusals. "Refusal 7 never occurs from now on"
+NUMBERS = [number for number in range(1, 14) if number != 7]
 
 # "text above 1,048,576 bytes"
 MOST_BYTES = 1_048_576

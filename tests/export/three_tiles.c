@@ -176,6 +176,23 @@ int main(int count, char **names)
     expect(memcmp(print + plan_length, "ldof=0\n", 7) == 0, "last line of the printed text");
     expect(all(print, plan_length + 7, sizeof print, FILLED), "bytes beyond the last line");
 
+    /* a square, its four edges a ring, with pins in two tiles: the edge that closes it is dropped, and one that then hangs
+       loose; with pins in one tile, all are */
+    static const char square[] = "width=2\nheight=2\nlayers=2\nalpha=1\nbeta=1\ngamma=0\neast=1,1\nnorth=1,1\n"
+                                 "east=1,1\nnorth=1,1\nnets=1\nnet=1\npins=0,0,1;1,1,1\nedges=0,0,e;1,0,n;0,1,e;0,0,n\n";
+    static uint32_t square_work[LAYERPLAN_WORK(2, 2, 2)];
+    static uint8_t ring[sizeof square];
+    for (size_t pins = 1; pins <= 2; pins++) {
+        memcpy(ring, square, sizeof square);
+        if (pins == 1)
+            memcpy(strstr((char *)ring, ";1,1,1"), ";0,0,2", 6);
+        fill();
+        r = layerplan_plan(ring, sizeof square - 1, square_work, LAYERPLAN_WORK(2, 2, 2), order, 1, answer, 4);
+        expect(same(r, 0, 0, pins == 1, 0, 0, 0), "numbers of a ring");
+        uint8_t kept = pins == 1 ? 0 : 1;
+        expect(answer[0] == kept && answer[1] == kept && answer[2] == 0 && answer[3] == 0, "answer list of a ring");
+    }
+
     /* no text, and buffers without elements: their pointers are not null */
     fill();
     r = layerplan_print(job, 0, work, WORK + MORE, order, 0, answer, 0, print, 0);

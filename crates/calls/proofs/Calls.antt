@@ -12,10 +12,10 @@ use Rattle.head.specs.declared.Head.{Head}
 use Rattle.layout.specs.Table.{turnColumn, viasColumn, tableSize, lowIn}
 use Rattle.model.specs.Calls.{refusal, outcomeOf, outcome, overwrite, stretches, plannedBy, Planned as PlannedBy, planLent, planCall, printedBy, Printed as PrintedBy, printLent, printCall}
 use Rattle.model.specs.Demand3.{Met}
-use Rattle.model.specs.Job.{Job, lowOf, netCount, netOf, netEdges, entryCount}
+use Rattle.model.specs.Job.{Job, lowOf, netCount, netOf, netEntries, entryCount}
 use Rattle.model.specs.Limits.{mostNets}
 use Rattle.model.specs.Overflow.{totalOverflow, maxOverflow}
-use Rattle.model.specs.Plan.{plan}
+use Rattle.model.specs.Plan.{plan, answered}
 use Rattle.model.specs.Read.{Lent, Place, Result, refused, found, printNeed, printFits, read}
 use Rattle.model.specs.Score.{order}
 use Rattle.net.specs.Table.{Table, mark-told, table-set, beside-tiles}
@@ -73,7 +73,7 @@ module _ (s : List ℕ) (lent : Lent) (w table : List ℕ) (ys os : List Entry) 
       order-made : orderOf os ≡ overwrite (order (k .job)) (orderOf ys)
       order-made = sorted-order (k .job) table (h .nets) (k .given .count) (k .scored .scores) lows-told lent (k .given .accepted) ys os room long (made .sorted)
 
-      turned : (size : ℕ) → entryCount (k .job) ≤ size → Turned s h w table′ size lent (k .job)
+      turned : (size : ℕ) → entryCount (k .job) ≤ size → Turned 3 s h w table′ size lent (k .job)
       turned size fits = record {
         given = k .given;
         rows = subst (Table s (k .job)) (sym (made .numbers)) (rows-listed s (k .job) os table (h .nets) (k .scored .rows));
@@ -107,11 +107,11 @@ module _ (s : List ℕ) (lent : Lent) (w table : List ℕ) (ys os : List Entry) 
 none-arranged : (ys os : List Entry) (table table′ : List ℕ) → Arranged 0 ys os table table′ → os ≡ ys
 none-arranged ys os table table′ made = made .sorted .rest
 
-answer-made : (lent : Lent) (j : Job) → Accepted lent j → (answer answer′ table′ : List ℕ) (t : Totals) → PlanMade j answer answer′ table′ t → answer′ ≡ overwrite (stretches (plan j)) answer
+answer-made : (lent : Lent) (j : Job) → Accepted lent j → (answer answer′ table′ : List ℕ) (t : Totals) → PlanMade j answer answer′ table′ t → answer′ ≡ overwrite (stretches (answered (j .nets) (plan j))) answer
 answer-made lent j acc answer answer′ table′ t made =
-    cut-whole (netEdges j) answer′
-    ∙ ap₂ (λ (ys : List (List ℕ)) (l : List ℕ). stretches ys ++ l) (made .placed .held .plan) (made .placed .beyond)
-    ∙ ap (λ (k : ℕ). stretches (plan j) ++ drop k answer) (sym (plan-long lent j acc))
+    cut-whole (netEntries j) answer′
+    ∙ ap₂ (λ (ys : List (List ℕ)) (l : List ℕ). stretches ys ++ l) (made .placed .held .layers) (made .placed .beyond)
+    ∙ ap (λ (k : ℕ). stretches (answered (j .nets) (plan j)) ++ drop k answer) (sym (plan-long lent j acc))
 
 -- ---- Plan
 

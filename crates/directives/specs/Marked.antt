@@ -5,20 +5,21 @@ use mathlib.Core.List.{List, [], _∷_, _++_}
 use mathlib.Core.Logic.{_⊎_, inl, inr, ⊎-elim, _≢_}
 use mathlib.Core.Path.{_≡_, refl, sym, ap, _∙_}
 use Prim.Native.Nat.{ℕ, suc, _+_, _-_, _*_, _≤_, _<_}
+use native.Mathlib.Decide.{ℕ-discrete}
 use native.Mathlib.Omega.{arith}
-use borrow.Author.Tests.{lt-ltb, le-ltb, ltb-true, ltb-false}
+use borrow.Author.Tests.{lt-ltb, le-ltb}
 use lib.Dec.{ltb, eqb}
 use lib.ListN.{length, getD, set, length-set}
 use lib.Seq.{getD-set-same, getD-set-other}
-use Rattle.layout.specs.Areas.{loadsAt, demandAt, edge-room}
+use Rattle.layout.specs.Areas.{loadsAt, demandAt, tilesAt, edge-room}
 use Rattle.layout.specs.Parts.{Outside, set-outside, outside-wider, outside-then, outside-same}
 use Rattle.layout.specs.declared.Shape.{Shape}
 use Rattle.model.specs.Job.{Net, lowOf}
 use Rattle.model.specs.Lists.{bit, occurs, In, count, has}
 use Rattle.net.specs.Places.{apart}
-use Rattle.theory.specs.congestion.Sums.{same, same-cases, same-ne, in-head, in-tail, eqb-true, eqb-false, lt-or-ge}
+use Rattle.theory.specs.congestion.Sums.{same, same-cases, in-head, in-tail, eqb-true, eqb-false, lt-or-ge}
 use Rattle.theory.specs.links.Nets.{EachNet}
-use Rattle.theory.specs.links.Tests.{has-true, has-false}
+use Rattle.theory.specs.congestion.Tests.{has-true, has-false}
 use Rattle.directives.specs.Counts.{cell, oneMore, marked, markedNet, markedNets}
 
 -- all edges of a list are of the grid
@@ -28,6 +29,20 @@ Known g es = (e : ℕ) → In e es → e < g .e
 pub marked-snoc : (g : Shape) (t : ℕ) (es : List ℕ) (e : ℕ) (w : List ℕ) → marked g t (es ++ (e ∷ [])) w ≡ oneMore g t e (marked g t es w)
 marked-snoc g t [] e w = refl
 marked-snoc g t (d ∷ es) e w = marked-snoc g t es e (oneMore g t d w)
+
+-- the same number is stored in two lists, apart from where they differ
+set-both : (a k : ℕ) (w w′ : List ℕ) → Outside a k w w′ → (i v v′ : ℕ) → i < a → i < length w → v′ ≡ v → Outside a k (set w i v) (set w′ i v′)
+set-both a k w w′ out i v v′ h room e = record {
+  long = length-set w′ i v′ ∙ out .long ∙ sym (length-set w i v);
+  low = λ j b. go j b (ℕ-discrete j i);
+  high = λ j b. getD-set-other w′ i j v′ 0 (λ q. omega arith) ∙ out .high j b ∙ sym (getD-set-other w i j v 0 (λ q. omega arith));
+}
+  where
+    go : (j : ℕ) → j < a → Dec (j ≡ i) → getD (set w′ i v′) j 0 ≡ getD (set w i v) j 0
+    go j b (yes q) =
+        ap (λ (x : ℕ). getD (set w′ i v′) x 0) q ∙ getD-set-same w′ i v′ 0 (omega (arith, out .long)) ∙ e
+        ∙ sym (ap (λ (x : ℕ). getD (set w i v) x 0) q ∙ getD-set-same w i v 0 room)
+    go j b (no q) = getD-set-other w′ i j v′ 0 q ∙ out .low j b ∙ sym (getD-set-other w i j v 0 q)
 
 module _ (g : Shape) where
   -- a cell is among the loads
@@ -55,7 +70,7 @@ module _ (g : Shape) where
         let c = cell-inside e t h low high in
         outside-wider (cell g e t) 1 (loadsAt g) (loadsAt g) w (set w (cell g e t) (getD w (cell g e t) 0 + 1)) (set-outside w (cell g e t) (getD w (cell g e t) 0 + 1)) (omega (arith, c)) (omega (arith, c))
 
-    one-at : (e : ℕ) (w : List ℕ) → e < g .e → demandAt g ≤ length w → (d : ℕ) → getD (oneMore g t e w) (cell g d t) 0 ≡ getD w (cell g d t) 0 + same d e
+    pub one-at : (e : ℕ) (w : List ℕ) → e < g .e → demandAt g ≤ length w → (d : ℕ) → getD (oneMore g t e w) (cell g d t) 0 ≡ getD w (cell g d t) 0 + same d e
     unfolding oneMore
     one-at e w h room d =
         ⊎-elim
@@ -91,6 +106,21 @@ module _ (g : Shape) where
     marked-other [] w d s s1 sk n = refl
     marked-other (e ∷ es) w d s s1 sk n = marked-other es (oneMore g t e w) d s s1 sk n ∙ one-other e w d s s1 sk n
 
+  -- ---- lists that differ in the marks and the links of the tiles only stay so
+
+  module _ (t : ℕ) (low : 1 ≤ t) (high : t ≤ g .k) where
+    one-both : (e : ℕ) (w w′ : List ℕ) → e < g .e → demandAt g ≤ length w → Outside (tilesAt g) (2 * g .t) w w′ → Outside (tilesAt g) (2 * g .t) (oneMore g t e w) (oneMore g t e w′)
+    unfolding oneMore
+    one-both e w w′ h room out =
+        let c = cell-inside e t h low high in
+        set-both (tilesAt g) (2 * g .t) w w′ out (cell g e t) (getD w (cell g e t) 0 + 1) (getD w′ (cell g e t) 0 + 1) (omega (arith, c)) (omega (arith, c))
+        (omega (arith, out .low (cell g e t) (omega (arith, c))))
+
+    pub marked-both : (es w w′ : List ℕ) → Known g es → demandAt g ≤ length w → Outside (tilesAt g) (2 * g .t) w w′ → Outside (tilesAt g) (2 * g .t) (marked g t es w) (marked g t es w′)
+    marked-both [] w w′ k room out = out
+    marked-both (e ∷ es) w w′ k room out =
+        marked-both es (oneMore g t e w) (oneMore g t e w′) (λ d i. k d (in-tail d e es i)) (omega (arith, one-long t low high e w)) (one-both e w w′ (k e (in-head e es)) room out)
+
   -- ---- the nets
 
   -- a net of the job: its edges are of the grid, each once, and its lowest wanted layer is a layer
@@ -110,6 +140,13 @@ module _ (g : Shape) where
       go : (b : Bool) → Outside (loadsAt g) (loadsAt g) w (cond b (marked g (lowOf n) (n .edges) w) w)
       go true = marked-outside (lowOf n) (f .low) (f .high) (n .edges) w (f .known)
       go false = outside-same (loadsAt g) (loadsAt g) w
+
+  pub net-both : (n : Net) (w w′ : List ℕ) → Fine n → demandAt g ≤ length w → Outside (tilesAt g) (2 * g .t) w w′ → Outside (tilesAt g) (2 * g .t) (markedNet g n w) (markedNet g n w′)
+  net-both n w w′ f room out = go (ltb 1 (lowOf n))
+    where
+      go : (b : Bool) → Outside (tilesAt g) (2 * g .t) (cond b (marked g (lowOf n) (n .edges) w) w) (cond b (marked g (lowOf n) (n .edges) w′) w′)
+      go true = marked-both (lowOf n) (f .low) (f .high) (n .edges) w w′ (f .known) room out
+      go false = out
 
   net-at : (n : Net) (w : List ℕ) → Fine n → demandAt g ≤ length w → (e t : ℕ) → 2 ≤ t → t ≤ g .k
       → getD (markedNet g n w) (cell g e t) 0 ≡ getD w (cell g e t) 0 + bit (wants e t n)

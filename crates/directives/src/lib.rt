@@ -1,30 +1,34 @@
 // Layer directives: over all edges, how many nets must go without a track on a layer that they want. The nets are counted by edge and wanted layer where the
 // loads of the placing will stand, which are still zero and are zeroed again.
+use known::Known;
 use layout::Shape;
 use print::Ldof;
 ghost use mathlib.Core.Bool.{true, false};
+ghost use mathlib.Core.List.{List, [], _∷_, _++_};
 ghost use mathlib.Core.Path.{_≡_};
 ghost use Prim.Native.Nat.{ℕ, suc, _+_, _*_, _<_, _≤_, min};
 ghost use lib.ListN.{length, getD};
-ghost use Rattle.layout.specs.Areas.{loadsAt, demandAt};
-ghost use Rattle.layout.specs.Fill.{PartCleared};
+ghost use Rattle.cut.specs.Again.{KeptAt};
+ghost use Rattle.layout.specs.Areas.{demandAt, chosenAt};
 ghost use Rattle.layout.specs.Shapes.{Shaped};
-ghost use Rattle.layout.specs.Table.{lowIn, tableSize};
-ghost use Rattle.model.specs.Directives.{summedExcess};
+ghost use Rattle.layout.specs.Table.{droppedIn, lowIn, tableSize};
+ghost use Rattle.marks.specs.Words.{mostStamp};
 ghost use Rattle.model.specs.Job.{Net, Job, netCount, netOf};
-ghost use Rattle.model.specs.Limits.{mostCapacity, mostLayers, mostNets};
+ghost use Rattle.model.specs.Limits.{mostNets};
 ghost use Rattle.model.specs.Lists.{upFrom, sum};
 ghost use Rattle.model.specs.Overflow.{over};
 ghost use Rattle.model.specs.Print.{ldofLine};
 ghost use Rattle.model.specs.Read.{Lent, edgeInside};
+ghost use Rattle.net.specs.Dropped.{Unmarked, Remarked};
 ghost use Rattle.net.specs.Left.{EdgesThere};
 ghost use Rattle.net.specs.SoFar.{Capacities};
 ghost use Rattle.net.specs.Table.{EdgesAt};
 ghost use Rattle.print.specs.Texts.{ldofText};
 ghost use Rattle.scan.specs.Pins.{triple};
 ghost use Rattle.ways.specs.Entry.{edgeOf};
-ghost use Rattle.directives.specs.Counts.{cell, oneMore, marked, markedNet, markedNets, roomIn, needIn, excessIn, anyLow, Few, SmallRooms};
+ghost use Rattle.directives.specs.Counts.{cell, oneMore, marked, markedNet, markedNets, excessIn, anyLow, Few, SmallRooms};
 ghost use Rattle.directives.specs.Asked.{Asked, AskedSome, SomeNet};
+ghost use Rattle.directives.specs.Counting.{KeptCounted};
 
 // ---- the nets that want a layer of an edge
 
@@ -49,12 +53,12 @@ fn count_entry(w: &mut [u32], g: Shape, low: usize, x: usize, y: usize, d: usize
     count_edge(w, g, low, edge);
 }
 
-// One more net that wants layer `low`, whose edges stand at `at`, one or more.
+// One more net that wants layer `low`, whose entries stand at `at`, one or more, and are all its edges.
 fn count_entries(s: &[u8], at: usize, w: &mut [u32], g: Shape, low: usize)
     requires { ⌜ Shaped g ⌝ }
     requires { ⌜ (1 ≤ low) × (low ≤ g .k) × (demandAt g ≤ length (now w)) × Few g low (now w) ⌝ }
     requires { ⌜ EdgesThere (now s) g at × (getD (now s) at 0 ≡ 10 → ⊥) ⌝ }
-    ensures { λ _. ⌜ ((n : Net) → EdgesAt (now (s .entry)) (g .w) (g .h) at n → now (w .exit) ≡ marked g low (n .edges) (now (w .entry))) ⌝ }
+    ensures { λ _. ⌜ ((n : Net) → EdgesAt (now (s .entry)) (g .w) (g .h) at n → now (w .exit) ≡ marked g low (n .entries) (now (w .entry))) ⌝ }
     ensures { λ _. ⌜ length (now (w .exit)) ≡ length (now (w .entry)) ⌝ }
 {
     let mut i = at;
@@ -73,7 +77,7 @@ fn count_line(s: &[u8], at: usize, w: &mut [u32], g: Shape, low: usize)
     requires { ⌜ Shaped g ⌝ }
     requires { ⌜ (1 ≤ low) × (low ≤ g .k) × (demandAt g ≤ length (now w)) × Few g low (now w) ⌝ }
     requires { ⌜ EdgesThere (now s) g at ⌝ }
-    ensures { λ _. ⌜ ((n : Net) → EdgesAt (now (s .entry)) (g .w) (g .h) at n → now (w .exit) ≡ marked g low (n .edges) (now (w .entry))) ⌝ }
+    ensures { λ _. ⌜ ((n : Net) → EdgesAt (now (s .entry)) (g .w) (g .h) at n → now (w .exit) ≡ marked g low (n .entries) (now (w .entry))) ⌝ }
     ensures { λ _. ⌜ length (now (w .exit)) ≡ length (now (w .entry)) ⌝ }
 {
     if s[at] != 10 {
@@ -81,16 +85,67 @@ fn count_line(s: &[u8], at: usize, w: &mut [u32], g: Shape, low: usize)
     }
 }
 
-// Net i, counted from 0: it counts where it wants a layer above 1.
-fn count_net(s: &[u8], w: &mut [u32], g: Shape, table: &[u32], i: usize)
+// One more net on the edge of an entry inside the grid, if it is marked under the stamp.
+fn count_if_kept(w: &mut [u32], g: Shape, low: usize, stamp: u32, e: Known)
     requires { ⌜ Shaped g ⌝ }
-    requires { ⌜ demandAt g ≤ length (now w) ⌝ }
+    requires { ⌜ (1 ≤ low) × (low ≤ g .k) × (chosenAt g ≤ length (now w)) × (e .third ≤ 1) × (edgeInside (g .w) (g .h) (triple (e .x) (e .y) (e .third)) ≡ true) ⌝ }
+    requires { ⌜ getD (now w) (cell g (edgeOf g (triple (e .x) (e .y) (e .third))) low) 0 < mostNets ⌝ }
+    ensures { λ _. ⌜ ((w₀ xs : List ℕ) → KeptCounted g low stamp w₀ xs (now (w .entry)) → KeptCounted g low stamp w₀ (xs ++ (edgeOf g (triple (e .x) (e .y) (e .third)) ∷ [])) (now (w .exit))) ⌝ }
+    ensures { λ _. ⌜ length (now (w .exit)) ≡ length (now (w .entry)) ⌝ }
+{
+    if cut::keeps(w, g, stamp, e) {
+        count_entry(w, g, low, e.x, e.y, e.third);
+    }
+}
+
+// One more net that wants layer `low`, whose entries stand at `at`, one or more, and whose edges are marked under the stamp.
+fn count_kept(s: &[u8], at: usize, w: &mut [u32], g: Shape, low: usize, stamp: u32)
+    requires { ⌜ Shaped g ⌝ }
+    requires { ⌜ (1 ≤ low) × (low ≤ g .k) × (chosenAt g ≤ length (now w)) × Few g low (now w) ⌝ }
+    requires { ⌜ EdgesThere (now s) g at × (getD (now s) at 0 ≡ 10 → ⊥) ⌝ }
+    ensures { λ _. ⌜ ((n : Net) → KeptAt (now (s .entry)) g at stamp (now (w .entry)) n → now (w .exit) ≡ marked g low (n .edges) (now (w .entry))) ⌝ }
+    ensures { λ _. ⌜ length (now (w .exit)) ≡ length (now (w .entry)) ⌝ }
+{
+    let mut i = at;
+    loop {
+        let e = known::edge_at(s, i);
+        count_if_kept(w, g, low, stamp, e);
+        if e.last {
+            return;
+        }
+        i = e.next;
+    }
+}
+
+// Net i, counted from 0, which wants a layer above 1 and has dropped entries: its edges are marked again.
+fn count_cut(s: &[u8], w: &mut [u32], g: Shape, table: &[u32], i: usize, stamp: u32)
+    requires { ⌜ Shaped g ⌝ }
+    requires { ⌜ (chosenAt g ≤ length (now w)) × (stamp ≤ mostStamp) × Unmarked g stamp (now w) ⌝ }
+    requires { ⌜ SomeNet (now s) g (now w) (now table) i × (0 < droppedIn (now table) i) × (1 < lowIn (now table) i) ⌝ }
+    ensures { λ _. ⌜ ((lent : Lent) (j : Job) → Asked (now (s .entry)) g (now (table .entry)) lent j → i < netCount j → Remarked g (stamp + 1) (markedNet g (netOf j (suc i)) (now (w .entry))) (now (w .exit))) ⌝ }
+    ensures { λ _. ⌜ length (now (w .exit)) ≡ length (now (w .entry)) ⌝ }
+{
+    let low = layout::low_in(table, i) as usize;
+    let pins = layout::index(table[layout::pins_column(i)]);
+    let edges = layout::index(table[layout::edges_column(i)]);
+    cut::mark_net(s, pins, edges, w, g, stamp);
+    count_kept(s, edges, w, g, low, stamp);
+}
+
+// Net i, counted from 0: it counts where it wants a layer above 1. `stamp` is that of net 0.
+fn count_net(s: &[u8], w: &mut [u32], g: Shape, table: &[u32], i: usize, stamp: u32)
+    requires { ⌜ Shaped g ⌝ }
+    requires { ⌜ (chosenAt g ≤ length (now w)) × (stamp + i ≤ mostStamp) × Unmarked g (stamp + i) (now w) ⌝ }
     requires { ⌜ SomeNet (now s) g (now w) (now table) i ⌝ }
-    ensures { λ _. ⌜ ((lent : Lent) (j : Job) → Asked (now (s .entry)) g (now (table .entry)) lent j → i < netCount j → now (w .exit) ≡ markedNet g (netOf j (suc i)) (now (w .entry))) ⌝ }
+    ensures { λ _. ⌜ ((lent : Lent) (j : Job) → Asked (now (s .entry)) g (now (table .entry)) lent j → i < netCount j → Remarked g (stamp + i + 1) (markedNet g (netOf j (suc i)) (now (w .entry))) (now (w .exit))) ⌝ }
     ensures { λ _. ⌜ length (now (w .exit)) ≡ length (now (w .entry)) ⌝ }
 {
     let low = layout::low_in(table, i) as usize;
     if 1 < low {
+        if 0 < layout::dropped_in(table, i) {
+            count_cut(s, w, g, table, i, stamp + i as u32);
+            return;
+        }
         let at = layout::index(table[layout::edges_column(i)]);
         count_line(s, at, w, g, low);
     }
@@ -99,13 +154,13 @@ fn count_net(s: &[u8], w: &mut [u32], g: Shape, table: &[u32], i: usize)
 // All n nets.
 fn count_nets(s: &[u8], w: &mut [u32], g: Shape, table: &[u32], n: usize)
     requires { ⌜ Shaped g ⌝ }
-    requires { ⌜ demandAt g ≤ length (now w) ⌝ }
+    requires { ⌜ (chosenAt g ≤ length (now w)) × Unmarked g (suc (3 * n)) (now w) ⌝ }
     requires { ⌜ AskedSome (now s) g (now w) (now table) n ⌝ }
-    ensures { λ _. ⌜ ((lent : Lent) (j : Job) → Asked (now (s .entry)) g (now (table .entry)) lent j → n ≡ netCount j → now (w .exit) ≡ markedNets g (j .nets) (now (w .entry))) ⌝ }
+    ensures { λ _. ⌜ ((lent : Lent) (j : Job) → Asked (now (s .entry)) g (now (table .entry)) lent j → n ≡ netCount j → Remarked g (suc (4 * n)) (markedNets g (j .nets) (now (w .entry))) (now (w .exit))) ⌝ }
     ensures { λ _. ⌜ length (now (w .exit)) ≡ length (now (w .entry)) ⌝ }
 {
     for i in 0..n {
-        count_net(s, w, g, table, i);
+        count_net(s, w, g, table, i, (3 * n + 1) as u32);
     }
 }
 
@@ -183,10 +238,10 @@ fn any_low(table: &[u32], n: usize) -> bool
 // The last line of the print, for a job whose n nets are scored and not yet placed.
 pub fn ldof_of(s: &[u8], w: &mut [u32], g: Shape, table: &[u32], n: usize) -> Ldof
     requires { ⌜ Shaped g ⌝ }
-    requires { ⌜ demandAt g ≤ length (now w) ⌝ }
+    requires { ⌜ (chosenAt g ≤ length (now w)) × Unmarked g (suc (3 * n)) (now w) ⌝ }
     requires { ⌜ AskedSome (now s) g (now w) (now table) n ⌝ }
     ensures { λ r. ⌜ ((lent : Lent) (j : Job) → Asked (now (s .entry)) g (now (table .entry)) lent j → Capacities g j (now (w .entry)) → n ≡ netCount j → ldofText r ≡ ldofLine j) ⌝ }
-    ensures { λ _. ⌜ now (w .exit) ≡ now (w .entry) ⌝ }
+    ensures { λ _. ⌜ Remarked g (suc (4 * n)) (now (w .entry)) (now (w .exit)) ⌝ }
 {
     if !any_low(table, n) {
         return Ldof::Absent;

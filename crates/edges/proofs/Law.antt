@@ -14,7 +14,7 @@ use Rattle.model.specs.Job.{Pin}
 use Rattle.model.specs.Lists.{all, twice}
 use Rattle.model.specs.Read.{Place, Result, refused, found, Reading as Reads, next, _>>=_, _>>_, give, form, need, line, Sizes, Triple, edgeEntries, edgeInside, edgeAt, hasLayer, edgesLine}
 use Rattle.model.specs.Text.{bytes, cutLine, behind}
-use Rattle.model.specs.Tree.{ring, joined}
+use Rattle.model.specs.Tree.{joined}
 use Rattle.scan.specs.Lines.{Lined}
 use Rattle.scan.specs.Places.{drop-byte, getD-in, head-drop}
 use Rattle.scan.specs.Ways.{edgesOf, edgesCut, edgesIn, edgesRanged, edgesKey, ranged, edges-law, edges-some}
@@ -53,7 +53,6 @@ module _ (z : Sizes) (ps : List Pin) where
   tested ts = do
     let edges = map (edgeAt W H) ts
     need 6 (not (twice eqb edges))
-    need 7 (not (ring W H edges))
     need 8 (joined W H ps edges)
     layered edges
 
@@ -84,16 +83,14 @@ module _ (z : Sizes) (ps : List Pin) where
       place : Place
       place = record { line = l; rest = c .1 }
 
-      tests : (a b d : Bool) → next (need 6 (not a) place) (λ u. _>>_ (need 7 (not b)) (_>>_ (need 8 d) (layered edges)))
-          ≡ next (cond a (refused 6 l) (cond b (refused 7 l) (cond d (found edges place) (refused 8 l)))) layered
-      tests true b d = refl
-      tests false true d = refl
-      tests false false true = refl
-      tests false false false = refl
+      tests : (a d : Bool) → next (need 6 (not a) place) (λ u. _>>_ (need 8 d) (layered edges)) ≡ next (cond a (refused 6 l) (cond d (found edges place) (refused 8 l))) layered
+      tests true d = refl
+      tests false true = refl
+      tests false false = refl
 
       go : (p : Bool) → next (cond p (found (c .0) place) (refused 3 l)) tested
-          ≡ next (cond p (cond (twice eqb edges) (refused 6 l) (cond (ring W H edges) (refused 7 l) (cond (joined W H ps edges) (found edges place) (refused 8 l)))) (refused 3 l)) layered
-      go true = tests (twice eqb edges) (ring W H edges) (joined W H ps edges)
+          ≡ next (cond p (cond (twice eqb edges) (refused 6 l) (cond (joined W H ps edges) (found edges place) (refused 8 l))) (refused 3 l)) layered
+      go true = tests (twice eqb edges) (joined W H ps edges)
       go false = refl
 
   -- what it says of the edges of a line that passed the others
@@ -149,7 +146,7 @@ module _ (g : Shape) (n : ℕ) (s : List ℕ) (c : Cursor) (o : Opened) (e : o �
       text = ap (λ (m : ℕ). edgesCut (cutLine (drop m s))) (k .0) ∙ k .1 .text;
       inside = k .1 .inside;
       once = k .1 .once;
-      no-ring = k .1 .no-ring;
+      ring-told = k .1 .ring-told;
       reached = k .1 .reached;
       count-is = k .1 .count-is;
       after = record { place = k .1 .after .place; lines = k .1 .after .lines ∙ ap (λ (x : Opened). x .place .line) e };
@@ -161,7 +158,7 @@ module _ (g : Shape) (n : ℕ) (s : List ℕ) (c : Cursor) (o : Opened) (e : o �
   }
     where
       judged : judgedLine (g .w) (g .h) ps (o .place .line) (edgesCut (cutLine (drop (o .place .at) s))) ≡ found (edgesOn g (k .1 .entries)) (placeOf s d)
-      judged = rw (k .1 .text, k .1 .inside, k .1 .once, k .1 .no-ring, k .1 .reached, k .1 .after .lines)
+      judged = rw (k .1 .text, k .1 .inside, k .1 .once, k .1 .reached, k .1 .after .lines)
 
 -- ---- the last test
 

@@ -27,8 +27,8 @@ use Rattle.text.specs.declared.Refusal.the-variants.{Line as OnLine}
 use Rattle.theory.specs.links.Counted.{counted-joined}
 use Rattle.theory.specs.links.Roots.{ring-none}
 use Rattle.edges.specs.Entries.{before, before-none, entry-fits, text-bad, text-last, text-more, place-more}
-use Rattle.edges.specs.Line.{judgedLine, verdictBy, verdictOf, EntriesRead}
-use Rattle.edges.specs.Reading.{Reading, Few, Begun, Shown, GoesOn, Ready, edgesOn}
+use Rattle.edges.specs.Line.{judgedLine, reachedBy, verdictBy, verdictOf, EntriesRead}
+use Rattle.edges.specs.Reading.{Reading, Few, Begun, Going, Shown, GoesOn, Ready, edgesOn}
 use Rattle.edges.specs.declared.EdgesRead.{EdgesRead}
 use Rattle.edges.specs.declared.EdgesRead.the-variants.{Line, Refused}
 use Rattle.edges.specs.declared.Judged.{Judged}
@@ -42,38 +42,43 @@ module _ (g : Shape) (n : ℕ) (s : List ℕ) (ps : List Pin) (some-pin : 1 ≤ 
   abbrev l : ℕ
   l = d .line
 
-  judged-by : (p q r u : Bool) → all (edgeInside (g .w) (g .h)) ts ≡ p → twice eqb (edgesOn g ts) ≡ q → ring (g .w) (g .h) (edgesOn g ts) ≡ r → joined (g .w) (g .h) ps (edgesOn g ts) ≡ u
+  judged-by : (p q u : Bool) → all (edgeInside (g .w) (g .h)) ts ≡ p → twice eqb (edgesOn g ts) ≡ q → joined (g .w) (g .h) ps (edgesOn g ts) ≡ u
       → judgedLine (g .w) (g .h) ps (c .line) (some (ts, drop (d .at) s))
-      ≡ cond p (cond q (refused 6 l) (cond r (refused 7 l) (cond u (found (edgesOn g ts) (record { line = l; rest = drop (d .at) s })) (refused 8 l)))) (refused 3 l)
-  judged-by p q r u a b e f = rw (sym (after .lines), a, b, e, f)
+      ≡ cond p (cond q (refused 6 l) (cond u (found (edgesOn g ts) (record { line = l; rest = drop (d .at) s })) (refused 8 l))) (refused 3 l)
+  judged-by p q u a b f = rw (sym (after .lines), a, b, f)
 
   reached-is : (qs : List Pin) → 1 ≤ length qs → Reading g n qs (edgesOn g ts) parts w₀ w → eqb parts 1 ≡ joined (g .w) (g .h) qs (edgesOn g ts)
   reached-is [] h r = absurd (omega arith)
   reached-is (q ∷ qs) h r = counted-joined (g .w) (g .h) (g .t) _ _ parts q qs (edgesOn g ts) (r .counted)
 
-  pub read-end : (j : Judged) → Shown g n ps w₀ ts parts w j → EntriesRead g n s c ps w₀ w (some (ts, drop (d .at) s)) (verdictBy j parts entries (c .at) d)
-  read-end Fine k = go (eqb parts 1) refl
+  -- the marks went on to the end: reach decides, with a ring or without
+  reach-end : (ringed : Bool) → Going g n ps w₀ ts parts w → ring (g .w) (g .h) (edgesOn g ts) ≡ ringed
+      → EntriesRead g n s c ps w₀ w (some (ts, drop (d .at) s)) (reachedBy parts entries (c .at) d ringed)
+  reach-end ringed k told = go (eqb parts 1) refl
     where
       go : (q : Bool) → eqb parts 1 ≡ q
-          → EntriesRead g n s c ps w₀ w (some (ts, drop (d .at) s)) (cond q (Line (record { from = c .at; entries = entries }) d) (Refused (OnLine Apart (d .line))))
+          → EntriesRead g n s c ps w₀ w (some (ts, drop (d .at) s)) (cond q (Line (record { from = c .at; entries = entries; ring = ringed }) d) (Refused (OnLine Apart (d .line))))
       go true e = (
         refl,
         record {
           entries = ts;
           text = refl;
-          inside = k .0 .inside;
-          once = k .0 .once;
-          no-ring = k .1;
-          reached = sym (reached-is ps some-pin (k .0 .reading)) ∙ e;
+          inside = k .inside;
+          once = k .once;
+          ring-told = told;
+          reached = sym (reached-is ps some-pin (k .reading)) ∙ e;
           count-is = entries-are ∙ sym (length-map ts (edgeAt (g .w) (g .h)));
           after = after;
-          reading = rw (eqb-true parts 1 e) at (k .0 .reading);
+          reading = rw (eqb-true parts 1 e) at (k .reading);
         },
       )
-      go false e = judged-by true false false false (k .0 .inside) (k .0 .once) (k .1) (sym (reached-is ps some-pin (k .0 .reading)) ∙ e)
-  read-end Ring k = judged-by true false true (joined (g .w) (g .h) ps (edgesOn g ts)) (k .0 .inside) (k .0 .once) (k .1) refl
-  read-end Twice k = judged-by true true (ring (g .w) (g .h) (edgesOn g ts)) (joined (g .w) (g .h) ps (edgesOn g ts)) (k .0) (k .1) refl refl
-  read-end Range k = judged-by false (twice eqb (edgesOn g ts)) (ring (g .w) (g .h) (edgesOn g ts)) (joined (g .w) (g .h) ps (edgesOn g ts)) k refl refl refl
+      go false e = judged-by true false false (k .inside) (k .once) (sym (reached-is ps some-pin (k .reading)) ∙ e)
+
+  pub read-end : (j : Judged) → Shown g n ps w₀ ts parts w j → EntriesRead g n s c ps w₀ w (some (ts, drop (d .at) s)) (verdictBy j parts entries (c .at) d)
+  read-end Fine k = reach-end false (k .0) (k .1)
+  read-end Ring k = reach-end true (k .0) (k .1)
+  read-end Twice k = judged-by true true (joined (g .w) (g .h) ps (edgesOn g ts)) (k .0) (k .1) refl
+  read-end Range k = judged-by false (twice eqb (edgesOn g ts)) (joined (g .w) (g .h) ps (edgesOn g ts)) k refl refl
 
 -- ---- the loop
 
@@ -144,11 +149,12 @@ module _ (v : Seen) (from : ℕ) (c : Cursor) where
   pub verdict-is : (j : Judged) → v .judged ≡ j → verdictBy j (v .parts) (v .entries) from c ≡ verdictOf v from c
   verdict-is j e = sym (ap (λ (k : Judged). verdictBy k (v .parts) (v .entries) from c) e)
 
-  abbrev fine : Bool → EdgesRead
-  fine q = cond q (Line (record { from = from; entries = v .entries }) c) (Refused (OnLine Apart (c .line)))
+  module _ (ringed : Bool) where
+    abbrev reached : Bool → EdgesRead
+    reached q = cond q (Line (record { from = from; entries = v .entries; ring = ringed }) c) (Refused (OnLine Apart (c .line)))
 
-  pub verdict-apart : v .judged ≡ Fine → (v .parts ≡ 1 → ⊥) → Refused (OnLine Apart (c .line)) ≡ verdictOf v from c
-  verdict-apart e h = sym (ap fine (ne-eqb (v .parts) 1 h)) ∙ verdict-is Fine e
+    pub reach-apart : (v .parts ≡ 1 → ⊥) → Refused (OnLine Apart (c .line)) ≡ reachedBy (v .parts) (v .entries) from c ringed
+    reach-apart h = sym (ap reached (ne-eqb (v .parts) 1 h))
 
-  pub verdict-line : v .judged ≡ Fine → v .parts ≡ 1 → Line (record { from = from; entries = v .entries }) c ≡ verdictOf v from c
-  verdict-line e h = sym (ap fine (eq-eqb (v .parts) 1 h)) ∙ verdict-is Fine e
+    pub reach-line : v .parts ≡ 1 → Line (record { from = from; entries = v .entries; ring = ringed }) c ≡ reachedBy (v .parts) (v .entries) from c ringed
+    reach-line h = sym (ap reached (eq-eqb (v .parts) 1 h))

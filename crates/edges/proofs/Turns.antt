@@ -7,7 +7,7 @@ use Prim.Native.Nat.{ℕ, _+_, _≤_, _<_}
 use native.Mathlib.Omega.{arith}
 use lib.Dec.{eqb}
 use lib.ListN.{length, getD, set, length-set}
-use Rattle.layout.specs.Areas.{demandAt, tilesAt, linksAt, chosenAt, tilesOf}
+use Rattle.layout.specs.Areas.{demandAt, tilesAt, linksAt, chosenAt, tilesOf, linksOf}
 use Rattle.layout.specs.Parts.{Outside}
 use Rattle.layout.specs.Shapes.{Shaped, wayOf}
 use Rattle.layout.specs.declared.Shape.{Shape}
@@ -20,7 +20,7 @@ use Rattle.model.specs.Tree.{ring}
 use Rattle.scan.specs.Inside.{false-true}
 use Rattle.theory.specs.congestion.Sums.{in-head}
 use Rattle.theory.specs.links.Reach.{loOf, hiOf}
-use Rattle.theory.specs.links.Tests.{twice-once}
+use Rattle.theory.specs.congestion.Tests.{twice-once}
 use Rattle.theory.specs.walk.NetVias.{pinTiles}
 use Rattle.theory.specs.walk.Joined.{ends}
 use Rattle.union.specs.Links.{Merged}
@@ -28,7 +28,7 @@ use Rattle.ways.specs.Ends.{endsOf, endsAfter, first-mark, twice-marked, new-ma
 use Rattle.ways.specs.Entry.{startOf, edgeOf, Placed, placed}
 use Rattle.ways.specs.declared.Ends.the-variants.{Twice as Marked, New}
 use Rattle.edges.specs.Lists.{all-snoc, twice-snoc}
-use Rattle.edges.specs.Reading.{Reading, Few, Going, Shown, goesOn, GoesOn, Ready, linksOf, edgesOn}
+use Rattle.edges.specs.Reading.{Reading, Few, Going, Shown, goesOn, GoesOn, Ready, edgesOn}
 use Rattle.edges.specs.Steps.{counted-most, counted-some, marked-has, ring-then, reading-then}
 use Rattle.edges.specs.declared.Judged.{Judged}
 use Rattle.edges.specs.declared.Judged.the-variants.{Fine, Ring, Twice, Range}

@@ -1,6 +1,6 @@
 -- The `edges` line as the definitions judge it, and what the code answers.
 -- Assumes nothing.
-use mathlib.Core.Bool.{true, false, cond}
+use mathlib.Core.Bool.{Bool, true, false, cond}
 use mathlib.Core.List.{List, map}
 use mathlib.Core.Option.{none, some}
 use mathlib.Core.Path.{_≡_}
@@ -19,7 +19,7 @@ use Rattle.scan.specs.Ways.{edgesCut}
 use Rattle.lines.specs.Told.{After, refusedBy}
 use Rattle.text.specs.Refusals.{placeOf}
 use Rattle.text.specs.declared.Cursor.{Cursor}
-use Rattle.text.specs.declared.Fault.the-variants.{Range as OutOfRange, EdgeTwice, Ring as RingFound, Apart}
+use Rattle.text.specs.declared.Fault.the-variants.{Range as OutOfRange, EdgeTwice, Apart}
 use Rattle.text.specs.declared.Refusal.the-variants.{Line as OnLine}
 use Rattle.edges.specs.Reading.{Reading, edgesOn}
 use Rattle.edges.specs.declared.Edges.{Edges}
@@ -29,19 +29,23 @@ use Rattle.edges.specs.declared.Judged.{Judged}
 use Rattle.edges.specs.declared.Judged.the-variants.{Fine, Ring, Twice, Range}
 use Rattle.edges.specs.declared.Seen.{Seen}
 
--- a line of entries that was read, judged but for its last test: range, the same edge twice, ring, reach
+-- a line of entries that was read, judged but for its last test: range, the same edge twice, reach
 abbrev pub judgedLine : ℕ → ℕ → List Pin → ℕ → Lined → Result (List ℕ)
 judgedLine W H ps l none = refused 2 l
 judgedLine W H ps l (some c) =
     let es = map (edgeAt W H) (c .0) in
     cond (all (edgeInside W H) (c .0))
-    (cond (twice eqb es) (refused 6 l) (cond (ring W H es) (refused 7 l) (cond (joined W H ps es) (found es (record { line = l; rest = c .1 })) (refused 8 l))))
+    (cond (twice eqb es) (refused 6 l) (cond (joined W H ps es) (found es (record { line = l; rest = c .1 })) (refused 8 l)))
     (refused 3 l)
+
+-- the verdict on reach, with a ring or without
+abbrev pub reachedBy : ℕ → ℕ → ℕ → Cursor → Bool → EdgesRead
+reachedBy parts entries from c ring = cond (eqb parts 1) (Line (record { from = from; entries = entries; ring = ring }) c) (Refused (OnLine Apart (c .line)))
 
 -- the verdict on a line whose form is right: its entries stand from `from` on, and c is the place after it
 abbrev pub verdictBy : Judged → ℕ → ℕ → ℕ → Cursor → EdgesRead
-verdictBy Fine parts entries from c = cond (eqb parts 1) (Line (record { from = from; entries = entries }) c) (Refused (OnLine Apart (c .line)))
-verdictBy Ring parts entries from c = Refused (OnLine RingFound (c .line))
+verdictBy Fine parts entries from c = reachedBy parts entries from c false
+verdictBy Ring parts entries from c = reachedBy parts entries from c true
 verdictBy Twice parts entries from c = Refused (OnLine EdgeTwice (c .line))
 verdictBy Range parts entries from c = Refused (OnLine OutOfRange (c .line))
 
@@ -54,7 +58,7 @@ pub record EdgesFound (g : Shape) (n : ℕ) (s : List ℕ) (line : ℕ) (ps : Li
   pub text : r ≡ some (entries, drop (c .at) s)
   pub inside : all (edgeInside (g .w) (g .h)) entries ≡ true
   pub once : twice eqb (edgesOn g entries) ≡ false
-  pub no-ring : ring (g .w) (g .h) (edgesOn g entries) ≡ false
+  pub ring-told : ring (g .w) (g .h) (edgesOn g entries) ≡ e .ring
   pub reached : joined (g .w) (g .h) ps (edgesOn g entries) ≡ true
   pub count-is : e .entries ≡ length (edgesOn g entries)
   pub after : After (length s) line c

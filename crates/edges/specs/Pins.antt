@@ -8,7 +8,7 @@ use Prim.Native.Nat.{ℕ, _+_, _-_, _*_, _≤_, _<_}
 use native.Mathlib.Omega.{arith}
 use lib.Dec.{eqb}
 use lib.ListN.{length}
-use Rattle.layout.specs.Areas.{demandAt, tilesAt, linksAt, chosenAt, tilesOf}
+use Rattle.layout.specs.Areas.{demandAt, tilesAt, linksAt, chosenAt, tilesOf, linksOf}
 use Rattle.layout.specs.Dirs.{dirsOf}
 use Rattle.layout.specs.Parts.{Outside, part-long, part-outside}
 use Rattle.layout.specs.Shapes.{sizesOf, Shaped}
@@ -36,7 +36,7 @@ use Rattle.union.specs.Links.{parentIn, older-links}
 use Rattle.union.specs.Parts.{older-counted}
 use Rattle.ways.specs.Ends.{first-mark}
 use Rattle.ways.specs.Entry.{startOf}
-use Rattle.edges.specs.Reading.{Reading, Begun, linksOf}
+use Rattle.edges.specs.Reading.{Reading, Begun}
 use Rattle.edges.specs.Steps.{reading-here}
 
 -- ---- a fine line of pins

@@ -6,14 +6,12 @@ use mathlib.Core.Path.{_≡_}
 use Prim.Native.Nat.{ℕ, _+_, _≤_, _<_, _*_}
 use lib.Dec.{eqb}
 use lib.ListN.{length, getD}
-use Rattle.layout.specs.Areas.{demandAt, flatAt, tilesAt, linksAt, tilesOf}
-use Rattle.layout.specs.Parts.{part}
+use Rattle.layout.specs.Areas.{demandAt, flatAt, tilesAt, tilesOf, linksOf}
 use Rattle.layout.specs.Shapes.{mostTiles}
 use Rattle.layout.specs.declared.Shape.{Shape}
 use Rattle.marks.specs.Marks.{marked, touched}
-use Rattle.marks.specs.Words.{Fits}
+use Rattle.marks.specs.Words.{Fits, mostStamp}
 use Rattle.model.specs.Job.{Pin}
-use Rattle.model.specs.Limits.{mostNets}
 use Rattle.model.specs.Lists.{all, twice, has, occurs, bit}
 use Rattle.model.specs.Read.{Triple, edgeInside, edgeAt}
 use Rattle.model.specs.Tree.{ring}
@@ -24,10 +22,6 @@ use Rattle.union.specs.Links.{parentIn, Links}
 use Rattle.ways.specs.Entry.{startOf, edgeOf}
 use Rattle.edges.specs.declared.Judged.{Judged}
 use Rattle.edges.specs.declared.Judged.the-variants.{Fine, Ring, Twice, Range}
-
--- the links of the tiles
-abbrev pub linksOf : Shape → List ℕ → List ℕ
-linksOf g w = part (linksAt g) (g .t) w
 
 -- the edges that a list of entries names
 abbrev pub edgesOn : Shape → List Triple → List ℕ
@@ -89,6 +83,6 @@ GoesOn Range = ⊥
 -- what the next edge asks of the working numbers
 pub record Ready (g : Shape) (n parts : ℕ) (w : List ℕ) : Type 0 where
   pub links : Links n (linksOf g w)
-  pub demand : (e : ℕ) → e < g .e → getD w (demandAt g + e) 0 ≤ 2 * mostNets
+  pub demand : (e : ℕ) → e < g .e → getD w (demandAt g + e) 0 ≤ mostStamp
   pub some-part : 1 ≤ parts
   pub few-parts : parts ≤ mostTiles

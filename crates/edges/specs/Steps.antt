@@ -9,7 +9,7 @@ use native.Mathlib.Omega.{arith}
 use lib.Dec.{eqb}
 use lib.ListN.{length, getD, set}
 use lib.Seq.{getD-set-same}
-use Rattle.layout.specs.Areas.{demandAt, tilesAt, linksAt, chosenAt, tilesOf}
+use Rattle.layout.specs.Areas.{demandAt, tilesAt, linksAt, chosenAt, tilesOf, linksOf}
 use Rattle.layout.specs.Parts.{part-long, part-outside, Outside, set-outside}
 use Rattle.layout.specs.Shapes.{Shaped}
 use Rattle.layout.specs.declared.Shape.{Shape}
@@ -31,7 +31,7 @@ use Rattle.union.specs.Rings.{merged-ring}
 use Rattle.ways.specs.Ends.{firstMark, endsAfter, first-mark, ends-forth, start-touches, ends-touch, ends-fit}
 use Rattle.ways.specs.Entry.{startOf, edgeOf, Placed, placed, same-edge}
 use Rattle.edges.specs.Lists.{has-snoc}
-use Rattle.edges.specs.Reading.{Reading, linksOf}
+use Rattle.edges.specs.Reading.{Reading}
 
 -- ---- how many parts there can be
 

@@ -1,5 +1,5 @@
-// The `edges` line of a net, judged from left to right: the form of the whole line first, then range, the same edge twice, a ring, reach, and layers that run
-// the ways of its edges. Its edges are marked by tile, their ends joined, and each is counted into the flat demand.
+// The `edges` line of a net, judged from left to right: the form of the whole line first, then range, the same edge twice, reach, and layers that run the
+// ways of its edges. Its edges are marked by tile, their ends joined, and each is counted into the flat demand; whether they have a ring is told.
 use layout::Shape;
 use text::Cursor;
 use text::Fault;
@@ -12,12 +12,11 @@ ghost use mathlib.Core.List.{List, [], _∷_, _++_};
 ghost use mathlib.Core.Option.{some};
 ghost use Prim.Native.Nat.{ℕ, _+_, _-_, _<_, _≤_, _*_};
 ghost use lib.ListN.{length, drop, getD, set};
-ghost use Rattle.layout.specs.Areas.{demandAt, tilesAt, linksAt, chosenAt, tilesOf};
+ghost use Rattle.layout.specs.Areas.{demandAt, tilesAt, linksAt, chosenAt, tilesOf, linksOf};
 ghost use Rattle.layout.specs.Parts.{Outside};
 ghost use Rattle.layout.specs.Shapes.{sizesOf, Shaped};
 ghost use Rattle.marks.specs.Words.{mostStamp};
 ghost use Rattle.model.specs.Job.{Pin};
-ghost use Rattle.model.specs.Limits.{mostNets};
 ghost use Rattle.model.specs.Lists.{all};
 ghost use Rattle.model.specs.Read.{Triple, edgeInside, hasLayer};
 ghost use Rattle.scan.specs.Pins.{triple};
@@ -25,8 +24,8 @@ ghost use Rattle.model.specs.Text.{cutLine};
 ghost use Rattle.scan.specs.Ways.{edgesOf, edgesCut};
 ghost use Rattle.union.specs.Links.{Links, Merged};
 ghost use Rattle.ways.specs.Ends.{endsOf, endsAfter};
-ghost use Rattle.edges.specs.Reading.{linksOf, edgesOn, Reading, Few, Begun, Shown, goesOn, GoesOn, Ready};
-ghost use Rattle.edges.specs.Line.{verdictOf, EntriesRead, JoinedRead, LineRead};
+ghost use Rattle.edges.specs.Reading.{edgesOn, Reading, Few, Begun, Shown, goesOn, GoesOn, Ready};
+ghost use Rattle.edges.specs.Line.{reachedBy, verdictOf, EntriesRead, JoinedRead, LineRead};
 ghost use Rattle.edges.specs.Served.{goes, EntriesAt};
 
 // What the entries of a line have shown so far, the worst of it: "On one line the lower number wins".
@@ -44,10 +43,11 @@ pub struct Seen {
     pub judged: Judged,
 }
 
-// The entries of an `edges` line: where they stand, and how many they are.
+// The entries of an `edges` line: where they stand, how many they are, and whether they have a ring.
 pub struct Edges {
     pub from: usize,
     pub entries: usize,
+    pub ring: bool,
 }
 
 // An `edges` line that was read, and the place of the next line.
@@ -85,22 +85,10 @@ fn put_marks(w: &mut [u32], g: Shape, stamp: u32, here: usize, there: usize, d: 
     ways::mark_ends(&mut w[from..to], stamp, here, there, d)
 }
 
-// Joins the two tiles of an edge. Whether they were apart.
-fn put_join(w: &mut [u32], g: Shape, stamp: u32, here: usize, there: usize) -> bool
-    requires { ⌜ Shaped g ⌝ }
-    requires { ⌜ (chosenAt g ≤ length (now w)) × (here < g .t) × (there < g .t) × (stamp ≤ mostStamp) × Links stamp (linksOf g (now w)) ⌝ }
-    ensures { λ r. ⌜ Merged stamp (linksOf g (now (w .entry))) here there (linksOf g (now (w .exit))) r ⌝ }
-    ensures { λ _. ⌜ Outside (linksAt g) (g .t) (now (w .entry)) (now (w .exit)) ⌝ }
-{
-    let from = layout::links_at(g);
-    let to = layout::chosen_at(g);
-    union::join(&mut w[from..to], stamp as usize, here, there)
-}
-
 // Counts an edge into the flat demand.
 fn put_demand(w: &mut [u32], g: Shape, edge: usize)
     requires { ⌜ Shaped g ⌝ }
-    requires { ⌜ (chosenAt g ≤ length (now w)) × (edge < g .e) × (getD (now w) (demandAt g + edge) 0 ≤ 2 * mostNets) ⌝ }
+    requires { ⌜ (chosenAt g ≤ length (now w)) × (edge < g .e) × (getD (now w) (demandAt g + edge) 0 ≤ mostStamp) ⌝ }
     ensures { λ _. ⌜ now (w .exit) ≡ set (now (w .entry)) (demandAt g + edge) (getD (now (w .entry)) (demandAt g + edge) 0 + 1) ⌝ }
 {
     let i = layout::demand_at(g) + edge;
@@ -130,7 +118,7 @@ fn add_edge(w: &mut [u32], g: Shape, stamp: u32, v: Seen, e: Item) -> Seen
         },
         Ends::New(k) => {
             let parts = v.parts + k;
-            if put_join(w, g, stamp, here, there) {
+            if union::put_join(w, g, stamp, here, there) {
                 let judged = v.judged;
                 return Seen {
                     entries,
@@ -188,6 +176,21 @@ fn put_edge(w: &mut [u32], g: Shape, stamp: u32, v: Seen, e: Item) -> Seen
     }
 }
 
+// The verdict on reach, where range and the same edge twice are judged; with a ring or without.
+fn reach(v: Seen, from: usize, c: Cursor, ring: bool) -> EdgesRead
+    ensures { λ r. ⌜ r ≡ reachedBy (v .parts) (v .entries) from c ring ⌝ }
+{
+    if v.parts != 1 {
+        return EdgesRead::Refused(Refusal::Line(Fault::Apart, c.line));
+    }
+    let e = Edges {
+        from,
+        entries: v.entries,
+        ring,
+    };
+    EdgesRead::Line(e, c)
+}
+
 // The verdict on a line whose form is right: its entries stand from `from` on, and c is the place after it.
 fn verdict(v: Seen, from: usize, c: Cursor) -> EdgesRead
     ensures { λ r. ⌜ r ≡ verdictOf v from c ⌝ }
@@ -196,17 +199,8 @@ fn verdict(v: Seen, from: usize, c: Cursor) -> EdgesRead
     match judged {
         Judged::Range => EdgesRead::Refused(Refusal::Line(Fault::Range, c.line)),
         Judged::Twice => EdgesRead::Refused(Refusal::Line(Fault::EdgeTwice, c.line)),
-        Judged::Ring => EdgesRead::Refused(Refusal::Line(Fault::Ring, c.line)),
-        Judged::Fine => {
-            if v.parts != 1 {
-                return EdgesRead::Refused(Refusal::Line(Fault::Apart, c.line));
-            }
-            let e = Edges {
-                from,
-                entries: v.entries,
-            };
-            EdgesRead::Line(e, c)
-        }
+        Judged::Ring => reach(v, from, c, true),
+        Judged::Fine => reach(v, from, c, false),
     }
 }
 

@@ -56,6 +56,9 @@ edge-room g e h = omega (arith, mul-le-mul-right (g .k) h)
 
 -- ---- parts of the working numbers
 
--- the marks of the tiles
+-- the marks of the tiles, and their links
 abbrev pub tilesOf : Shape → List ℕ → List ℕ
 tilesOf g w = part (tilesAt g) (g .t) w
+
+abbrev pub linksOf : Shape → List ℕ → List ℕ
+linksOf g w = part (linksAt g) (g .t) w

@@ -35,6 +35,13 @@ firstColumn i = netColumns * i + 3
 abbrev pub countColumn : ℕ → ℕ
 countColumn i = netColumns * i + 4
 
+-- there stand as well, above 16 bits, those of the entries that were dropped
+abbrev pub entriesIn : List ℕ → ℕ → ℕ
+entriesIn table i = getD table (countColumn i) 0 % 65_536
+
+abbrev pub droppedIn : List ℕ → ℕ → ℕ
+droppedIn table i = getD table (countColumn i) 0 / 65_536
+
 -- the vias of the net, once it is placed
 abbrev pub viasColumn : ℕ → ℕ
 viasColumn i = netColumns * i + 5

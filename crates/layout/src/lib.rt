@@ -10,7 +10,7 @@ ghost use Rattle.layout.specs.Fill.{PartCleared};
 ghost use Rattle.layout.specs.Shapes.{stackOf, shapeOf, Shaped, wayOf, WayRoom};
 ghost use Rattle.layout.specs.Areas.{loadsAt, demandAt, flatAt, tilesAt, linksAt, chosenAt, listAt, stopsAt, aboveAt, engineAt};
 ghost use lib.ListN.{length, replicate};
-ghost use Rattle.layout.specs.Table.{pinsColumn, edgesColumn, tilesColumn, turnColumn, firstColumn, countColumn, viasColumn, tableSize, lowIn, scoreIn, scorePut};
+ghost use Rattle.layout.specs.Table.{pinsColumn, edgesColumn, tilesColumn, turnColumn, firstColumn, countColumn, entriesIn, droppedIn, viasColumn, tableSize, lowIn, scoreIn, scorePut};
 
 // K layers. "Limits belong to the stack".
 pub struct Stack {
@@ -335,7 +335,7 @@ pub fn first_column(i: usize) -> usize
     COLUMNS * i + 3
 }
 
-// The entries of the `edges` line.
+// The entries of the `edges` line, and above 16 bits those that were dropped.
 pub fn count_column(i: usize) -> usize
     requires { ⌜ i < mostNets ⌝ }
     ensures { λ r. ⌜ r ≡ countColumn i ⌝ }
@@ -360,6 +360,22 @@ pub fn vias_column(i: usize) -> usize
     ensures { λ r. ⌜ r < tableSize ⌝ }
 {
     COLUMNS * i + 5
+}
+
+// ---- how many entries the `edges` line of a net has, and how many of them were dropped
+
+pub fn entries_in(table: &[u32], i: usize) -> usize
+    requires { ⌜ (i < mostNets) × (tableSize ≤ length (now table)) ⌝ }
+    ensures { λ r. ⌜ (r ≡ entriesIn (now (table .entry)) i) × (r < 65536) ⌝ }
+{
+    index(table[count_column(i)]) % 65536
+}
+
+pub fn dropped_in(table: &[u32], i: usize) -> usize
+    requires { ⌜ (i < mostNets) × (tableSize ≤ length (now table)) ⌝ }
+    ensures { λ r. ⌜ (r ≡ droppedIn (now (table .entry)) i) × (r < 65536) ⌝ }
+{
+    index(table[count_column(i)]) / 65536
 }
 
 // ---- until a net is placed, its lowest wanted layer stands in the last four bits of the place of its vias, 0 where it has no line `low`

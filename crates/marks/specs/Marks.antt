@@ -1,16 +1,16 @@
 -- Marks of tiles at a stamp, over a list of words.
 -- Assumes nothing.
-use mathlib.Core.Bool.{Bool, false, _&&_, _||_, not, cond}
+use mathlib.Core.Bool.{Bool, true, false, _&&_, _||_, not, cond}
 use mathlib.Core.List.{List}
 use mathlib.Core.Path.{_≡_, refl, sym, ap, _∙_}
-use Prim.Native.Nat.{ℕ, zero, suc, _+_, _*_, _^_, _≤_, _<_}
+use Prim.Native.Nat.{ℕ, zero, suc, _+_, _-_, _*_, _^_, _≤_, _<_}
 use lib.Dec.{eqb}
 use lib.ListN.{length, getD, set, length-set}
 use lib.Seq.{getD-set-same, getD-set-other}
 use borrow.Author.Tests.{eq-eqb, ne-eqb}
 use native.Mathlib.Decide.{ℕ-discrete}
 use native.Mathlib.Omega.{arith}
-use Rattle.marks.specs.Words.{bitsIn, bitOf, Fits, bits-small, bits-new, bits-old, bit-add, bit-room, bit-zero, stampUnit}
+use Rattle.marks.specs.Words.{bitsIn, bitOf, Fits, bits-small, bits-new, bits-old, bits-of, bit-add, bit-least, bit-take, bit-room, bit-zero, bit-some, stampUnit}
 use Rattle.marks.specs.declared.Put.{Put}
 use Rattle.marks.specs.declared.Put.the-variants.{Twice, Fresh, Known}
 
@@ -40,6 +40,10 @@ putOf n a t i = cond (marked n a t i) Twice (cond (eqb (bitsAt n a t) 0) Fresh K
 
 unfoldable pub marksAfter : ℕ → List ℕ → ℕ → ℕ → List ℕ
 marksAfter n a t i = cond (marked n a t i) a (mark n a t i)
+
+-- one mark less
+abbrev pub unmark : ℕ → List ℕ → ℕ → ℕ → List ℕ
+unmark n a t i = set a t (getD a t 0 - 2 ^ i)
 
 -- ---- one mark
 
@@ -86,6 +90,38 @@ module _ (n : ℕ) (a : List ℕ) (t i : ℕ) (room : t < length a) (i-small : i
 
 pub mark-long : (n : ℕ) (a : List ℕ) (t i : ℕ) → length (mark n a t i) ≡ length a
 mark-long n a t i = length-set a t (n * stampUnit + (bitsAt n a t + 2 ^ i))
+
+-- ---- one mark less
+
+module _ (n : ℕ) (a : List ℕ) (t i : ℕ) (room : t < length a) (there : marked n a t i ≡ true) where
+  some-bit : bitsAt n a t ≡ 0 → ⊥
+  some-bit = bit-some (bitsAt n a t) i there
+
+  pub unmark-least : 2 ^ i ≤ getD a t 0
+  unmark-least = omega (arith, bits-of n (getD a t 0) some-bit, bit-least (bitsAt n a t) i there)
+
+  left : bitsAt n (unmark n a t i) t ≡ bitsAt n a t - 2 ^ i
+  left =
+      let e : getD a t 0 - 2 ^ i ≡ n * stampUnit + (bitsAt n a t - 2 ^ i) = omega (arith, bits-of n (getD a t 0) some-bit, bit-least (bitsAt n a t) i there) in
+      rw (getD-set-same a t (getD a t 0 - 2 ^ i) 0 room, e) (bits-new n (bitsAt n a t - 2 ^ i) (omega (arith, bits-small n (getD a t 0))))
+
+  -- the marks are those before, but for the one
+  pub unmark-has : (u k : ℕ) → marked n (unmark n a t i) u k ≡ (not (eqb t u && eqb i k) && marked n a u k)
+  unmark-has u k = go (ℕ-discrete u t)
+    where
+      go : Dec (u ≡ t) → marked n (unmark n a t i) u k ≡ (not (eqb t u && eqb i k) && marked n a u k)
+      go (yes e) = rw (e, eq-eqb t t refl) (ap (λ (m : ℕ). bitOf m k) left ∙ bit-take (bitsAt n a t) i k there)
+      go (no h) = rw (ne-eqb t u (λ q. h (sym q))) (ap (λ (x : ℕ). bitOf (bitsIn n x) k) (getD-set-other a t u (getD a t 0 - 2 ^ i) 0 h))
+
+  pub unmark-fits : Fits n a → Fits n (unmark n a t i)
+  unmark-fits f u = go (ℕ-discrete u t)
+    where
+      go : Dec (u ≡ t) → getD (unmark n a t i) u 0 < (n + 1) * stampUnit
+      go (yes e) = rw (e, getD-set-same a t (getD a t 0 - 2 ^ i) 0 room) (omega (arith, f t))
+      go (no h) = rw (getD-set-other a t u (getD a t 0 - 2 ^ i) 0 h) (f u)
+
+pub unmark-long : (n : ℕ) (a : List ℕ) (t i : ℕ) → length (unmark n a t i) ≡ length a
+unmark-long n a t i = length-set a t (getD a t 0 - 2 ^ i)
 
 -- the marks of a net are earlier ones to the next
 pub fits-older : (n : ℕ) (a : List ℕ) → Fits n a → Older (n + 1) a

@@ -1,11 +1,11 @@
 // Which pins and ways the net at hand has in each tile. A word is stamp × 4,096 + bits; the bits of a word with another stamp are those of an earlier
 // net and count as none, so nothing is cleared between nets. Bits 0 to 7 are pins on layers 1 to 8; bits 8 to 11 are the ways east, north, west, south.
 ghost use mathlib.Core.Path.{_≡_};
-ghost use mathlib.Core.Bool.{cond};
+ghost use mathlib.Core.Bool.{true, cond};
 ghost use Prim.Native.Nat.{ℕ, _+_, _-_, _*_, _^_, _<_, _≤_};
 ghost use lib.ListN.{length, getD};
 ghost use Rattle.marks.specs.Words.{bitsIn, bitOf, Fits, mostStamp, stampUnit};
-ghost use Rattle.marks.specs.Marks.{marked, mark, putOf, marksAfter};
+ghost use Rattle.marks.specs.Marks.{marked, mark, unmark, putOf, marksAfter};
 
 // The bits of a word are a number below this one, and its stamp stands above them.
 pub const STAMP: u32 = 4096;
@@ -65,4 +65,12 @@ pub fn set_mark(a: &mut [u32], stamp: u32, t: usize, i: u32) -> Put
         return Put::Fresh;
     }
     Put::Known
+}
+
+// Takes away bit i of tile t, which is marked.
+pub fn clear_mark(a: &mut [u32], stamp: u32, t: usize, i: u32)
+    requires { ⌜ (t < length (now a)) × (i < 12) × (marked stamp (now a) t i ≡ true) ⌝ }
+    ensures { λ _. ⌜ now (a .exit) ≡ unmark stamp (now (a .entry)) t i ⌝ }
+{
+    a[t] = a[t] - power(i);
 }

@@ -6,17 +6,17 @@ use Prim.Native.Nat.{ℕ}
 use lib.ListN.{length, drop, replicate}
 use Rattle.model.specs.Job.{Job}
 use Rattle.model.specs.Overflow.{totalOverflow, maxOverflow}
-use Rattle.model.specs.Plan.{plan, totalVias}
+use Rattle.model.specs.Plan.{plan, answered, totalVias}
 use Rattle.model.specs.Print.{printed}
 use Rattle.model.specs.Read.{Lent, Result, refused, found, read}
 use Rattle.model.specs.Score.{Entry, order}
 
 -- ---- what a text and lent lengths lead to
 
--- of an accepted job: its order list, its plan, "total vias, TO and MO of the layered plan", and its print
+-- of an accepted job: its order list, the layers of each net's entries, "total vias, TO and MO of the layered plan", and its print
 pub record Told : Type 0 where
   pub order : List Entry
-  pub plan : List (List ℕ)
+  pub layers : List (List ℕ)
   pub vias : ℕ
   pub total : ℕ
   pub maximum : ℕ
@@ -30,7 +30,7 @@ pub data Outcome : Type 0 where
 abbrev pub toldOf : Job → List Entry → List (List ℕ) → Told
 toldOf j turns y = record {
   order = turns;
-  plan = y;
+  layers = answered (j .nets) y;
   vias = totalVias j y;
   total = totalOverflow j y;
   maximum = maxOverflow j y;
@@ -85,7 +85,7 @@ leftBy (refusal n l) b = record { working = cleared (b .working); order = b .ord
 leftBy (accepted t) b = record {
   working = cleared (b .working);
   order = overwrite (t .order) (b .order);
-  answer = overwrite (stretches (t .plan)) (b .answer);
+  answer = overwrite (stretches (t .layers)) (b .answer);
 }
 
 -- ---- Plan

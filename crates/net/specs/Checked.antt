@@ -2,9 +2,9 @@
 -- Assumes nothing.
 use mathlib.Core.List.{List}
 use mathlib.Core.Path.{_≡_}
-use Prim.Native.Nat.{ℕ, suc, _+_, _≤_, _<_}
+use Prim.Native.Nat.{ℕ, suc, _+_, _*_, _≤_, _<_}
 use lib.ListN.{length, getD}
-use Rattle.layout.specs.Areas.{loadsAt, demandAt, areasEnd, tilesOf}
+use Rattle.layout.specs.Areas.{loadsAt, demandAt, areasEnd, tilesOf, linksOf}
 use Rattle.layout.specs.Dirs.{dirsOf}
 use Rattle.layout.specs.Shapes.{shapeOf, Shaped}
 use Rattle.layout.specs.declared.Shape.{Shape}
@@ -24,8 +24,9 @@ pub record Checked (s : List ℕ) (g : Shape) (j : Job) (w table : List ℕ) : T
   pub loads : (i : ℕ) → loadsAt g ≤ i → i < demandAt g → getD w i 0 ≡ 0
   -- d(e) of the whole flat plan
   pub demand : (e : ℕ) → e < g .e → getD w (demandAt g + e) 0 ≡ flatDemand j e
-  -- the marks are those of the N nets read
-  pub marks : Older (suc (netCount j)) (tilesOf g w)
+  -- the marks and the links are those of the N nets read, two stamps to each
+  pub marks : Older (suc (2 * netCount j)) (tilesOf g w)
+  pub links : Older (suc (2 * netCount j)) (linksOf g w)
   pub rows : Table s j table
   pub pin-tiles : PinTiles j table
   pub lows : Marks j table

@@ -10,6 +10,7 @@ use native.Mathlib.Omega.{arith}
 use lib.ListN.{length, drop, getD, length-append, drop-of-length-le}
 use Rattle.layout.specs.Shapes.{Shaped}
 use Rattle.layout.specs.declared.Shape.{Shape}
+use Rattle.model.specs.Grid.{gridEdges}
 use Rattle.model.specs.Job.{Net}
 use Rattle.model.specs.Lists.{all, has, occurs}
 use Rattle.model.specs.Read.{Triple, edgeInside, edgeAt}
@@ -21,55 +22,52 @@ use Rattle.scan.specs.Ways.{edgesOf, edges-empty, edges-some}
 use Rattle.text.specs.Entries.{edgeEntryAt}
 use Rattle.text.specs.declared.Entry.the-variants.{More, Last, Bad}
 use Rattle.theory.specs.congestion.Sums.{lt-or-ge, same-refl}
-use Rattle.theory.specs.links.Edges.{nearOf}
-use Rattle.theory.specs.links.Nets.{NetOk, tree-of}
-use Rattle.theory.specs.links.Reach.{loOf, hiOf}
-use Rattle.theory.specs.links.Tests.{has-false}
-use Rattle.theory.specs.walk.GridNet.{net-room}
+use Rattle.theory.specs.links.Nets.{NetOk}
+use Rattle.theory.specs.links.Scores.{few-numbers}
+use Rattle.theory.specs.congestion.Tests.{has-false}
 use Rattle.theory.specs.walk.Stops.{occurs-append}
 use Rattle.net.specs.Table.{EdgesAt}
 
--- the edges es of the line at p were read, and the entries at i are those left of it
+-- the entries es of the line at p were read, and those at i are left of it
 pub record EdgesLeft (s : List ℕ) (W H p i : ℕ) (es : List ℕ) : Type 0 where
   pub entries : List Triple
   pub rest : List ℕ
   pub there : edgesOf (drop i s) ≡ some (entries, rest)
   pub inside : all (edgeInside W H) entries ≡ true
-  pub whole : (net : Net) → EdgesAt s W H p net → es ++ map (edgeAt W H) entries ≡ net .edges
+  pub whole : (net : Net) → EdgesAt s W H p net → es ++ map (edgeAt W H) entries ≡ net .entries
 
 -- the next entry of the line, inside the grid
 pub record EdgeNext (s : List ℕ) (W H p : ℕ) (es : List ℕ) (t : Triple) : Type 0 where
   pub inside : edgeInside W H t ≡ true
   pub way : t .third ≤ 1
-  pub whole : (net : Net) → EdgesAt s W H p net → (us : List ℕ) × (es ++ (edgeAt W H t ∷ us) ≡ net .edges)
+  pub whole : (net : Net) → EdgesAt s W H p net → (us : List ℕ) × (es ++ (edgeAt W H t ∷ us) ≡ net .entries)
 
--- some net's edges stand at p: no edge twice, and fewer than there are tiles
+-- some net's entries stand at p: no edge twice
 pub record EdgesThere (s : List ℕ) (g : Shape) (p : ℕ) : Type 0 where
   pub net : Net
   pub edges : EdgesAt s (g .w) (g .h) p net
-  pub once : (e : ℕ) → occurs e (net .edges) ≤ 1
-  pub few : length (net .edges) < g .t
+  pub once : (e : ℕ) → occurs e (net .entries) ≤ 1
+  pub few : length (net .entries) ≤ g .e
 
--- so it is with a net that the reading let pass
+-- a net that the reading let pass has no more entries than there are edges
+pub entries-few : (g : Shape) → Shaped g → (net : Net) → NetOk (g .w) (g .h) (g .k) net → length (net .entries) ≤ g .e
+entries-few g shaped net ok = omega (arith, few-numbers (gridEdges (g .w) (g .h)) (net .entries) (ok .entries-known) (ok .entries-once), shaped .e-is)
+
+-- so its entries are such
 pub edges-there : (s : List ℕ) (g : Shape) (p : ℕ) → Shaped g → (net : Net) → EdgesAt s (g .w) (g .h) p net → NetOk (g .w) (g .h) (g .k) net → EdgesThere s g p
 edges-there s g p shaped net at ok = record {
   net = net;
   edges = at;
-  once = ok .once;
-  few = omega (
-    arith,
-    net-room (loOf (g .w) (g .h)) (hiOf (g .w) (g .h)) (nearOf (g .w) (g .h)) (g .w * g .h) (net .pins) (net .edges)
-        (tree-of (g .w) (g .h) (g .k) (shaped .w-least) (shaped .h-least) net ok),
-    shaped .t-is,
-  );
+  once = ok .entries-once;
+  few = entries-few g shaped net ok;
 }
 
--- the next edge is not among those read, and these are fewer than there are tiles
+-- the next edge is not among those read, and these are fewer than there are edges
 module _ (s : List ℕ) (g : Shape) (p : ℕ) (es : List ℕ) (t : Triple) (there : EdgesThere s g p) (next : EdgeNext s (g .w) (g .h) p es t) where
   abbrev edge : ℕ
   edge = edgeAt (g .w) (g .h) t
 
-  after : (us : List ℕ) × (es ++ (edgeAt (g .w) (g .h) t ∷ us) ≡ there .net .edges)
+  after : (us : List ℕ) × (es ++ (edgeAt (g .w) (g .h) t ∷ us) ≡ there .net .entries)
   after = next .whole (there .net) (there .edges)
 
   pub next-new : has es (edgeAt (g .w) (g .h) t) ≡ false
@@ -83,7 +81,7 @@ module _ (s : List ℕ) (g : Shape) (p : ℕ) (es : List ℕ) (t : Triple) (ther
         same-refl edge,
       ))
 
-  pub next-room : length es < g .t
+  pub next-room : length es < g .e
   next-room = omega (arith, there .few, ap length (after .1), length-append es (edge ∷ after .0))
 
 module _ (s : List ℕ) (W H p : ℕ) where
@@ -92,7 +90,7 @@ module _ (s : List ℕ) (W H p : ℕ) where
     edges-place = ⊎-elim (λ h. h) (λ h. some-none (at .entries, at .rest) (sym (at .there) ∙ rw (drop-of-length-le s {i = p} h))) (lt-or-ge p (length s))
 
     -- a line without entries
-    pub edges-none : getD s p 0 ≡ 10 → net .edges ≡ []
+    pub edges-none : getD s p 0 ≡ 10 → net .entries ≡ []
     edges-none e =
         sym (at .are)
         ∙ ap (map (edgeAt W H)) (one-line (at .entries) [] (at .rest) (drop (p + 1) s) (sym (at .there) ∙ rw (drop-byte s p 10 e (omega arith)) (edges-empty (drop (p + 1) s))))
@@ -116,7 +114,7 @@ module _ (s : List ℕ) (W H p : ℕ) where
       last-only : Last x y d next ≡ edgeEntryAt s i → left .entries ≡ triple x y d ∷ []
       last-only e = one-line (left .entries) (triple x y d ∷ []) (left .rest) (drop next s) (sym (left .there) ∙ edge-is s i (Last x y d next) e)
 
-      pub last-whole : Last x y d next ≡ edgeEntryAt s i → (net : Net) → EdgesAt s W H p net → es ++ (edgeAt W H (triple x y d) ∷ []) ≡ net .edges
+      pub last-whole : Last x y d next ≡ edgeEntryAt s i → (net : Net) → EdgesAt s W H p net → es ++ (edgeAt W H (triple x y d) ∷ []) ≡ net .entries
       last-whole e net at = ap (λ (ts : List Triple). es ++ map (edgeAt W H) ts) (sym (last-only e)) ∙ left .whole net at
 
       pub last-next : Last x y d next ≡ edgeEntryAt s i → EdgeNext s W H p es (triple x y d)

@@ -1,7 +1,9 @@
 pub mod AtHand
+pub mod Ways
 pub mod SoFar
 pub mod Places
 pub mod Table
 pub mod Checked
+pub mod Dropped
 pub mod Left
 pub mod Held

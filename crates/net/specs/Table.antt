@@ -5,12 +5,12 @@ use mathlib.Core.List.{List, map}
 use mathlib.Core.Option.{Option, none, some}
 use mathlib.Core.Logic.{_≢_}
 use mathlib.Core.Path.{_≡_, sym, subst, _∙_}
-use Prim.Native.Nat.{ℕ, suc, _%_, _≤_, _<_, max}
+use Prim.Native.Nat.{ℕ, suc, _+_, _-_, _*_, _/_, _%_, _≤_, _<_, max}
 use native.Mathlib.Omega.{arith}
 use lib.ListN.{length, drop, getD, set, length-set}
 use lib.Seq.{getD-set-other}
 use Rattle.layout.specs.Table.{pinsColumn, edgesColumn, tilesColumn, turnColumn, firstColumn, countColumn, viasColumn, lowIn, tableSize}
-use Rattle.model.specs.Job.{Net, Job, lowFrom, netCount, netOf, netEdges}
+use Rattle.model.specs.Job.{Net, Job, lowFrom, netCount, netOf, netEntries}
 use Rattle.model.specs.Limits.{mostLayers}
 use Rattle.model.specs.Lists.{all}
 use Rattle.model.specs.Read.{Triple, pinInside, pinAt, edgeInside, edgeAt}
@@ -29,24 +29,36 @@ pub record PinsAt (s : List ℕ) (W H K p : ℕ) (n : Net) : Type 0 where
   pub inside : all (pinInside W H K) entries ≡ true
   pub are : map (pinAt W) entries ≡ n .pins
 
--- the entries of an `edges` line, perhaps none, stand at p, and are the edges of the net
+-- the entries of an `edges` line, perhaps none, stand at p, and are those of the net
 pub record EdgesAt (s : List ℕ) (W H p : ℕ) (n : Net) : Type 0 where
   pub entries : List Triple
   pub rest : List ℕ
   pub there : edgesCut (cutLine (drop p s)) ≡ some (entries, rest)
   pub inside : all (edgeInside W H) entries ≡ true
-  pub are : map (edgeAt W H) entries ≡ n .edges
+  pub are : map (edgeAt W H) entries ≡ n .entries
+
+-- the entries of a net, and above 16 bits those that were dropped
+abbrev pub countsOf : Net → ℕ
+countsOf n = length (n .entries) + 65_536 * (length (n .entries) - length (n .edges))
 
 -- the row of net i, counted from 0
 pub record Row (s : List ℕ) (j : Job) (table : List ℕ) (i : ℕ) : Type 0 where
   pub pins : PinsAt s (j .width) (j .height) (j .layers) (getD table (pinsColumn i) 0) (netOf j (suc i))
   pub edges : EdgesAt s (j .width) (j .height) (getD table (edgesColumn i) 0) (netOf j (suc i))
-  pub edge-count : getD table (countColumn i) 0 ≡ length (netOf j (suc i) .edges)
-  pub first : getD table (firstColumn i) 0 ≡ offset (netEdges j) i
+  -- how many entries it has, and how many of them were dropped
+  pub counts : getD table (countColumn i) 0 ≡ countsOf (netOf j (suc i))
+  pub first : getD table (firstColumn i) 0 ≡ offset (netEntries j) i
 
 pub record Table (s : List ℕ) (j : Job) (table : List ℕ) : Type 0 where
   pub long : tableSize ≤ length table
   pub rows : (i : ℕ) → i < netCount j → Row s j table i
+
+-- both can be read from them
+pub counts-entries : (n : Net) (v : ℕ) → v ≡ countsOf n → length (n .entries) < 65_536 → v % 65_536 ≡ length (n .entries)
+counts-entries n v e h = omega arith
+
+pub counts-dropped : (n : Net) (v : ℕ) → v ≡ countsOf n → length (n .entries) < 65_536 → v / 65_536 ≡ length (n .entries) - length (n .edges)
+counts-dropped n v e h = omega arith
 
 -- in how many tiles each net's pins are
 abbrev pub PinTiles : Job → List ℕ → Type 0
@@ -94,7 +106,7 @@ table-set s j table q v b t = record { long = omega (arith, t .long, length-set 
     row k r = record {
       pins = subst (λ (p : ℕ). PinsAt s (j .width) (j .height) (j .layers) p (netOf j (suc k))) (sym (kept (pinsColumn k) (b .pins k))) (r .pins);
       edges = subst (λ (p : ℕ). EdgesAt s (j .width) (j .height) p (netOf j (suc k))) (sym (kept (edgesColumn k) (b .edges k))) (r .edges);
-      edge-count = kept (countColumn k) (b .count k) ∙ r .edge-count;
+      counts = kept (countColumn k) (b .count k) ∙ r .counts;
       first = kept (firstColumn k) (b .first k) ∙ r .first;
     }
 

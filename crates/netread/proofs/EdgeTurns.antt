@@ -25,7 +25,7 @@ use Rattle.netread.specs.Hand.{edges-start, edges-more, fits-more}
 use Rattle.netread.specs.declared.Again.{Again}
 
 module _ (s : List ℕ) (g : Shape) (n p low : ℕ) (shaped : Shaped g) (there : EdgesThere s g p) where
-  pub going-start : (getD s p 0 ≡ 10 → ⊥) → (w : List ℕ) → Fits n (tilesOf g w) → EdgesGoing s g n p p low w w (record { low = low; edges = 0 })
+  pub going-start : (getD s p 0 ≡ 10 → ⊥) → (w : List ℕ) → Fits n (tilesOf g w) → EdgesGoing s g n p p low w w (record { low = low; entries = 0 })
   going-start h w fits = record {
     so-far = [];
     left = left-start s (g .w) (g .h) p (there .net) (there .edges) h;
@@ -45,7 +45,7 @@ module _ (s : List ℕ) (g : Shape) (n p low : ℕ) (shaped : Shaped g) (there :
       next : EdgeNext s (g .w) (g .h) p (going .so-far) (triple (k .x) (k .y) (k .third))
       next = known-next s g shaped p i (going .so-far) (going .left) k is
 
-      pub next-asked : (areasEnd g ≤ length w) × (v .edges < g .t) × (k .third ≤ 1) × (edgeInside (g .w) (g .h) (triple (k .x) (k .y) (k .third)) ≡ true)
+      pub next-asked : (areasEnd g ≤ length w) × (v .entries < g .e) × (k .third ≤ 1) × (edgeInside (g .w) (g .h) (triple (k .x) (k .y) (k .third)) ≡ true)
       next-asked = (
         omega (arith, going .marked .elsewhere .long),
         omega (arith, going .marked .count, next-room s g p (going .so-far) entry there next),
@@ -59,7 +59,7 @@ module _ (s : List ℕ) (g : Shape) (n p low : ℕ) (shaped : Shaped g) (there :
             edges-more g shaped n (going .so-far) w w′ (next-asked .0) entry (next .inside) (next .way) (next-new s g p (going .so-far) entry there next) v r one
             (going .marked .count) low w₀ (going .marked)
 
-        pub going-last : k .last ≡ true → (net : Net) → EdgesAt s (g .w) (g .h) p net → EdgesMarked g n low (net .edges) w₀ w′ r
+        pub going-last : k .last ≡ true → (net : Net) → EdgesAt s (g .w) (g .h) p net → EdgesMarked g n low (net .entries) w₀ w′ r
         going-last h net at =
             rw (last-whole s (g .w) (g .h) p i (going .so-far) (going .left) (k .x) (k .y) (k .third) (k .next) (is-last k (edgeEntryAt s i) is h) net at) at marked
 

@@ -36,20 +36,20 @@ both-long n a here there d = after-long n (marksAfter n a here (8 + d)) there (1
 -- the edge of entry t is marked in its two tiles, and listed behind those read before
 pub record EdgeMarked (g : Shape) (n : ℕ) (t : Triple) (v : Again) (w w′ : List ℕ) (r : Again) : Type 0 where
   pub marks : tilesOf g w′ ≡ bothAfter n (tilesOf g w) (startOf g t) (hiOf (g .w) (g .h) (edgeOf g t)) (t .third)
-  pub listed : getD w′ (listAt g + v .edges) 0 ≡ edgeOf g t
-  pub others : (i : ℕ) → i < v .edges → getD w′ (listAt g + i) 0 ≡ getD w (listAt g + i) 0
+  pub listed : getD w′ (listAt g + v .entries) 0 ≡ edgeOf g t
+  pub others : (i : ℕ) → i < v .entries → getD w′ (listAt g + i) 0 ≡ getD w (listAt g + i) 0
   pub elsewhere : Elsewhere g w w′
   pub lowest : r .low ≡ min (v .low) (startOf g t)
-  pub count : r .edges ≡ v .edges + 1
+  pub count : r .entries ≡ v .entries + 1
 
--- a net with these pins and edges
+-- a net with these pins and entries, all of which it keeps
 abbrev pub netWith : List Pin → List ℕ → Net
-netWith ps es = record { low = none; pins = ps; edges = es }
+netWith ps es = record { low = none; pins = ps; entries = es; edges = es }
 
 -- The edges es are marked and listed. From the pins on, the working numbers then hold the net; low is the lowest tile before.
 pub record EdgesMarked (g : Shape) (n low : ℕ) (es : List ℕ) (w w′ : List ℕ) (r : Again) : Type 0 where
   pub hand : (ps : List Pin) → AtHand g n (netWith ps []) w → AtHand g n (netWith ps es) w′
-  pub count : r .edges ≡ length es
+  pub count : r .entries ≡ length es
   pub lowest : r .low ≡ lowestFrom low (map (loOf (g .w) (g .h)) es)
   pub elsewhere : Elsewhere g w w′
 

@@ -9,7 +9,7 @@ use native.Mathlib.Omega.{arith}
 use borrow.Author.Tests.{eq-eqb, ne-eqb}
 use lib.Dec.{eqb}
 use lib.ListN.{length}
-use Rattle.layout.specs.Areas.{tilesAt, areasEnd, tilesOf}
+use Rattle.layout.specs.Areas.{tilesAt, chosenAt, tilesOf}
 use Rattle.layout.specs.Parts.{part-long}
 use Rattle.layout.specs.Shapes.{Shaped}
 use Rattle.layout.specs.declared.Shape.{Shape}
@@ -19,7 +19,7 @@ use Rattle.model.specs.Lists.{any, has, In}
 use Rattle.model.specs.Read.{samePin}
 use Rattle.model.specs.Vias.{pinLayers}
 use Rattle.model.specs.Walk.{endTiles, netTiles, lowestFrom, lowest}
-use Rattle.net.specs.AtHand.{AtHand}
+use Rattle.net.specs.AtHand.{Drawn}
 use Rattle.pins.specs.Laws.{AllInside, first-twice, pins-has, pins-others, pins-fit}
 use Rattle.pins.specs.Pins.{pinMarked, markPin, markPins, markedTwice}
 use Rattle.theory.specs.congestion.Sums.{in-head, in-tail}
@@ -27,7 +27,6 @@ use Rattle.theory.specs.links.Nets.{NetOk, EachPin}
 use Rattle.theory.specs.links.Reach.{loOf, hiOf}
 use Rattle.theory.specs.walk.NetVias.{pinTiles}
 use Rattle.theory.specs.walk.Ways.{way?}
-use Rattle.netread.specs.Edges.{netWith}
 use Rattle.netread.specs.Pins.{afterPins, noTile}
 use Rattle.netread.specs.Ways.{lo-hi}
 
@@ -66,7 +65,7 @@ all-inside size K few [] h k = tt
 all-inside size K few (p ∷ ps) h k =
     ((h (p .tile) (in-head (p .tile) (pinTiles ps)), k .0 .0, omega (arith, k .0 .1)), all-inside size K few ps (λ t i. h t (in-tail t (p .tile) (pinTiles ps) i)) (k .1))
 
-module _ (g : Shape) (shaped : Shaped g) (n : ℕ) (net : Net) (ok : NetOk (g .w) (g .h) (g .k) net) (w w′ : List ℕ) (room : areasEnd g ≤ length w)
+module _ (g : Shape) (shaped : Shaped g) (n : ℕ) (net : Net) (ok : NetOk (g .w) (g .h) (g .k) net) (w w′ : List ℕ) (room : chosenAt g ≤ length w)
     (older : Older n (tilesOf g w)) (marks : tilesOf g w′ ≡ afterPins n (tilesOf g w) (net .pins)) where
   inside : AllInside (length (tilesOf g w)) (net .pins)
   inside =
@@ -88,9 +87,9 @@ module _ (g : Shape) (shaped : Shaped g) (n : ℕ) (net : Net) (ok : NetOk (g .w
   and-none true = refl
   and-none false = refl
 
-  -- the pins are at hand, and no edge yet
-  pub pins-hand : AtHand g n (netWith (net .pins) []) w′
-  pins-hand = record {
+  -- the pins are marked, and no edge yet
+  pub pins-drawn : Drawn g n (net .pins) [] (tilesOf g w′)
+  pins-drawn = record {
     fits = rw marks-are (pins-fit n (tilesOf g w) (net .pins) inside once (older-fits n (tilesOf g w) older));
     pins = λ t l b h k.
         ap (λ (a : List ℕ). marked n a t (l - 1)) marks-are
@@ -102,7 +101,6 @@ module _ (g : Shape) (shaped : Shaped g) (n : ℕ) (net : Net) (ok : NetOk (g .w
         ∙ pins-others n (tilesOf g w) (net .pins) inside once t (8 + d) (omega arith)
         ∙ none-marked n (tilesOf g w) older t (8 + d)
         ∙ and-none (way? (g .w) (g .h) t d);
-    list = λ i h. absurd (omega arith);
   }
 
 -- ---- the lowest tile

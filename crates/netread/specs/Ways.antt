@@ -15,7 +15,7 @@ use Rattle.model.specs.Read.{Triple, edgeInside}
 use Rattle.theory.specs.congestion.Sums.{lt-or-ge}
 use Rattle.theory.specs.links.Edges.{lo-is, hi-is}
 use Rattle.theory.specs.links.Reach.{loOf, hiOf}
-use Rattle.theory.specs.links.Tests.{is-true, test-eq, and-both, both-and}
+use Rattle.theory.specs.congestion.Tests.{is-true, test-eq, and-both, both-and}
 use Rattle.theory.specs.walk.Stops.{At, far}
 use Rattle.theory.specs.walk.Ways.{way?, wayTile, wayEdge, way-leads}
 use Rattle.ways.specs.Entry.{startOf, edgeOf, Placed, placed}
@@ -30,10 +30,10 @@ test-same a b h = eqb-true a b (is-true (eqb a b) h)
 -- ---- the edge of a way out of a tile
 
 -- its lower end is the tile and its higher end the tile that the way leads to, or the other way round
-abbrev Up : ℕ → ℕ → ℕ → ℕ → Type 0
+abbrev pub Up : ℕ → ℕ → ℕ → ℕ → Type 0
 Up W H u d = (loOf W H (wayEdge W H u d) ≡ u) × (hiOf W H (wayEdge W H u d) ≡ wayTile W u d)
 
-abbrev Down : ℕ → ℕ → ℕ → ℕ → Type 0
+abbrev pub Down : ℕ → ℕ → ℕ → ℕ → Type 0
 Down W H u d = (hiOf W H (wayEdge W H u d) ≡ u) × (loOf W H (wayEdge W H u d) ≡ wayTile W u d)
 
 module _ (W H : ℕ) (wide : 1 ≤ W) (high : 1 ≤ H) where
@@ -49,7 +49,7 @@ module _ (W H : ℕ) (wide : 1 ≤ W) (high : 1 ≤ H) where
   far-of u e (inl p) v f = inl (p, sym (rw (eq-eqb u (loOf W H e) (sym p))) ∙ f)
   far-of u e (inr p) v f = inr (p, sym (rw (ne-eqb u (loOf W H e) (λ q. omega (arith, lo-hi e)))) ∙ f)
 
-  way-ends : (u d : ℕ) → u < W * H → T (way? W H u d) → Up W H u d ⊎ Down W H u d
+  pub way-ends : (u d : ℕ) → u < W * H → T (way? W H u d) → Up W H u d ⊎ Down W H u d
   way-ends u d b p =
       far-of u (wayEdge W H u d) (rw (lo-is W H wide, hi-is W H wide) (way-leads W H wide high u d b p .1)) (wayTile W u d)
       (rw (lo-is W H wide, hi-is W H wide) (way-leads W H wide high u d b p .2))
@@ -57,7 +57,7 @@ module _ (W H : ℕ) (wide : 1 ≤ W) (high : 1 ≤ H) where
   way-up : (u d : ℕ) → u ≤ wayTile W u d → Up W H u d ⊎ Down W H u d → Up W H u d
   way-up u d h r = ⊎-elim (λ q. q) (λ q. absurd (omega (arith, lo-hi (wayEdge W H u d), q .0, q .1))) r
 
-  way-down : (u d : ℕ) → wayTile W u d ≤ u → Up W H u d ⊎ Down W H u d → Down W H u d
+  pub way-down : (u d : ℕ) → wayTile W u d ≤ u → Up W H u d ⊎ Down W H u d → Down W H u d
   way-down u d h r = ⊎-elim (λ q. absurd (omega (arith, lo-hi (wayEdge W H u d), q .0, q .1))) (λ q. q) r
 
 -- ---- an entry's edge
@@ -79,7 +79,7 @@ module _ (g : Shape) (shaped : Shaped g) where
       (q, omega (arith, div-add-mod (y * g .w + x) (g .w), ap (λ (m : ℕ). g .w * m) q))
 
   -- the way on, out of the tile where the edge starts
-  on-way : (x y d : ℕ) → edgeInside (g .w) (g .h) (record { x = x; y = y; third = d }) ≡ true → d ≤ 1
+  pub on-way : (x y d : ℕ) → edgeInside (g .w) (g .h) (record { x = x; y = y; third = d }) ≡ true → d ≤ 1
       → T (way? (g .w) (g .h) (startOf g (record { x = x; y = y; third = d })) d)
       × (wayEdge (g .w) (g .h) (startOf g (record { x = x; y = y; third = d })) d ≡ edgeOf g (record { x = x; y = y; third = d }))
   on-way x y zero e h =
@@ -92,7 +92,7 @@ module _ (g : Shape) (shaped : Shaped g) where
   on-way x y (suc (suc d)) e h = absurd (omega arith)
 
   -- the way back, out of the tile where it ends
-  back-way : (x y d : ℕ) → edgeInside (g .w) (g .h) (record { x = x; y = y; third = d }) ≡ true → d ≤ 1
+  pub back-way : (x y d : ℕ) → edgeInside (g .w) (g .h) (record { x = x; y = y; third = d }) ≡ true → d ≤ 1
       → T (way? (g .w) (g .h) (hiOf (g .w) (g .h) (edgeOf g (record { x = x; y = y; third = d }))) (2 + d))
       × (wayEdge (g .w) (g .h) (hiOf (g .w) (g .h) (edgeOf g (record { x = x; y = y; third = d }))) (2 + d) ≡ edgeOf g (record { x = x; y = y; third = d }))
   back-way x y zero e h =
@@ -116,7 +116,7 @@ module _ (g : Shape) (shaped : Shaped g) where
     apart e = ap (λ (d : ℕ). wayOf g (startOf g t) d .tile) (sym e) ∙ p .leads
 
     -- a way on that is the entry's edge starts where it starts
-    on-same : (u k : ℕ) → u < g .t → k ≤ 1 → T (way? (g .w) (g .h) u k) → wayEdge (g .w) (g .h) u k ≡ edgeOf g t → (startOf g t ≡ u) × (t .third ≡ k)
+    pub on-same : (u k : ℕ) → u < g .t → k ≤ 1 → T (way? (g .w) (g .h) u k) → wayEdge (g .w) (g .h) u k ≡ edgeOf g t → (startOf g t ≡ u) × (t .third ≡ k)
     on-same u zero b h q e =
         let r = way-up (g .w) (g .h) wide high u 0 (omega arith) (way-ends (g .w) (g .h) wide high u 0 (omega (arith, shaped .t-is)) q) in
         let l : startOf g t ≡ u = sym (p .starts) ∙ ap (loOf (g .w) (g .h)) (sym e) ∙ r .0 in
@@ -129,7 +129,7 @@ module _ (g : Shape) (shaped : Shaped g) where
     on-same u (suc (suc k)) b h q e = absurd (omega arith)
 
     -- a way back that is the entry's edge starts where it ends
-    back-same : (u k : ℕ) → u < g .t → k ≤ 1 → T (way? (g .w) (g .h) u (2 + k)) → wayEdge (g .w) (g .h) u (2 + k) ≡ edgeOf g t
+    pub back-same : (u k : ℕ) → u < g .t → k ≤ 1 → T (way? (g .w) (g .h) u (2 + k)) → wayEdge (g .w) (g .h) u (2 + k) ≡ edgeOf g t
         → (hiOf (g .w) (g .h) (edgeOf g t) ≡ u) × (t .third ≡ k)
     back-same u zero b h q e =
         let r = way-down (g .w) (g .h) wide high u 2 (omega arith) (way-ends (g .w) (g .h) wide high u 2 (omega (arith, shaped .t-is)) q) in

@@ -5,7 +5,7 @@ ghost use mathlib.Core.Bool.{true};
 ghost use mathlib.Core.Path.{_≡_};
 ghost use Prim.Native.Nat.{ℕ, _+_, _-_, _*_, _^_, _<_, _≤_, min, max};
 ghost use lib.ListN.{length, getD};
-ghost use Rattle.layout.specs.Areas.{tilesAt, areasEnd, tilesOf};
+ghost use Rattle.layout.specs.Areas.{tilesAt, chosenAt, areasEnd, tilesOf};
 ghost use Rattle.layout.specs.Parts.{Outside};
 ghost use Rattle.layout.specs.Shapes.{Shaped};
 ghost use Rattle.marks.specs.Marks.{marksAfter, Older};
@@ -17,15 +17,15 @@ ghost use Rattle.net.specs.Table.{PinsAt, EdgesAt};
 ghost use Rattle.scan.specs.Pins.{triple};
 ghost use Rattle.netread.specs.Pins.{PinsThere, PinsMarked};
 ghost use Rattle.netread.specs.Edges.{bothAfter, EdgeMarked, EdgesMarked};
-ghost use Rattle.netread.specs.Net.{NetThere, LinesOf, NetRead};
+ghost use Rattle.netread.specs.Net.{PinsPut, NetThere, LinesOf, NetRead};
 
-// What was read of a net again: its lowest tile, and how many edges it has.
+// What was read of a net again: its lowest tile, and how many entries its `edges` line has.
 pub struct Again {
     pub low: usize,
-    pub edges: usize,
+    pub entries: usize,
 }
 
-fn lower(a: usize, b: usize) -> usize
+pub fn lower(a: usize, b: usize) -> usize
     ensures { λ r. ⌜ r ≡ min a b ⌝ }
 {
     if a < b { a } else { b }
@@ -44,7 +44,7 @@ fn mark_pin(a: &mut [u32], g: Shape, stamp: u32, low: usize, p: Known) -> usize
 }
 
 // Marks the pins whose entries stand at `at`. Their lowest tile.
-pub fn mark_pins(s: &[u8], at: usize, a: &mut [u32], g: Shape, stamp: u32) -> usize
+fn mark_pins(s: &[u8], at: usize, a: &mut [u32], g: Shape, stamp: u32) -> usize
     requires { ⌜ Shaped g ⌝ }
     requires { ⌜ (g .t ≤ length (now a)) × (stamp ≤ mostStamp) ⌝ }
     requires { ⌜ PinsThere (now s) g at ⌝ }
@@ -90,9 +90,9 @@ fn mark_both(a: &mut [u32], stamp: u32, here: usize, there: usize, d: u32)
 }
 
 // Marks an edge in its two tiles, which are a part of the working numbers.
-fn mark_ways(w: &mut [u32], g: Shape, stamp: u32, here: usize, there: usize, d: u32)
+pub fn mark_ways(w: &mut [u32], g: Shape, stamp: u32, here: usize, there: usize, d: u32)
     requires { ⌜ Shaped g ⌝ }
-    requires { ⌜ (areasEnd g ≤ length (now w)) × (here < g .t) × (there < g .t) × (d ≤ 1) × (stamp ≤ mostStamp) ⌝ }
+    requires { ⌜ (chosenAt g ≤ length (now w)) × (here < g .t) × (there < g .t) × (d ≤ 1) × (stamp ≤ mostStamp) ⌝ }
     requires { ⌜ Fits stamp (tilesOf g (now w)) ⌝ }
     ensures { λ _. ⌜ tilesOf g (now (w .exit)) ≡ bothAfter stamp (tilesOf g (now (w .entry))) here there d ⌝ }
     ensures { λ _. ⌜ Outside (tilesAt g) (g .t) (now (w .entry)) (now (w .exit)) ⌝ }
@@ -105,18 +105,18 @@ fn mark_ways(w: &mut [u32], g: Shape, stamp: u32, here: usize, there: usize, d: 
 // Marks an edge, and lists it behind those read before.
 fn mark_edge(w: &mut [u32], g: Shape, stamp: u32, v: Again, e: Known) -> Again
     requires { ⌜ Shaped g ⌝ }
-    requires { ⌜ (areasEnd g ≤ length (now w)) × (stamp ≤ mostStamp) × (v .edges < g .t) × (e .third ≤ 1) × (edgeInside (g .w) (g .h) (triple (e .x) (e .y) (e .third)) ≡ true) ⌝ }
+    requires { ⌜ (areasEnd g ≤ length (now w)) × (stamp ≤ mostStamp) × (v .entries < g .e) × (e .third ≤ 1) × (edgeInside (g .w) (g .h) (triple (e .x) (e .y) (e .third)) ≡ true) ⌝ }
     requires { ⌜ Fits stamp (tilesOf g (now w)) ⌝ }
     ensures { λ r. ⌜ EdgeMarked g stamp (triple (e .x) (e .y) (e .third)) v (now (w .entry)) (now (w .exit)) r ⌝ }
 {
     let here = layout::tile_at(g, e.x, e.y);
     let way = layout::way_out(g, here, e.third);
     mark_ways(w, g, stamp, here, way.tile, e.third as u32);
-    let i = layout::list_at(g) + v.edges;
+    let i = layout::list_at(g) + v.entries;
     w[i] = way.edge as u32;
     Again {
         low: lower(v.low, here),
-        edges: v.edges + 1,
+        entries: v.entries + 1,
     }
 }
 
@@ -125,10 +125,10 @@ fn mark_entries(s: &[u8], at: usize, w: &mut [u32], g: Shape, stamp: u32, low: u
     requires { ⌜ Shaped g ⌝ }
     requires { ⌜ (areasEnd g ≤ length (now w)) × (stamp ≤ mostStamp) × Fits stamp (tilesOf g (now w)) ⌝ }
     requires { ⌜ EdgesThere (now s) g at × (getD (now s) at 0 ≡ 10 → ⊥) ⌝ }
-    ensures { λ r. ⌜ ((n : Net) → EdgesAt (now (s .entry)) (g .w) (g .h) at n → EdgesMarked g stamp low (n .edges) (now (w .entry)) (now (w .exit)) r) ⌝ }
+    ensures { λ r. ⌜ ((n : Net) → EdgesAt (now (s .entry)) (g .w) (g .h) at n → EdgesMarked g stamp low (n .entries) (now (w .entry)) (now (w .exit)) r) ⌝ }
 {
     let mut i = at;
-    let mut v = Again { low, edges: 0 };
+    let mut v = Again { low, entries: 0 };
     loop {
         let e = known::edge_at(s, i);
         v = mark_edge(w, g, stamp, v, e);
@@ -144,23 +144,33 @@ pub fn mark_edges(s: &[u8], at: usize, w: &mut [u32], g: Shape, stamp: u32, low:
     requires { ⌜ Shaped g ⌝ }
     requires { ⌜ (areasEnd g ≤ length (now w)) × (stamp ≤ mostStamp) × Fits stamp (tilesOf g (now w)) ⌝ }
     requires { ⌜ EdgesThere (now s) g at ⌝ }
-    ensures { λ r. ⌜ ((n : Net) → EdgesAt (now (s .entry)) (g .w) (g .h) at n → EdgesMarked g stamp low (n .edges) (now (w .entry)) (now (w .exit)) r) ⌝ }
+    ensures { λ r. ⌜ ((n : Net) → EdgesAt (now (s .entry)) (g .w) (g .h) at n → EdgesMarked g stamp low (n .entries) (now (w .entry)) (now (w .exit)) r) ⌝ }
 {
     if s[at] == 10 {
-        return Again { low, edges: 0 };
+        return Again { low, entries: 0 };
     }
     mark_entries(s, at, w, g, stamp, low)
 }
 
-// Reads the lines of a net again, whose entries stand at `pins` and `edges`: the net is then at hand.
+// Marks the pins whose entries stand at `at` in their tiles, which are a part of the working numbers. Their lowest tile.
+pub fn put_pins(s: &[u8], at: usize, w: &mut [u32], g: Shape, stamp: u32) -> usize
+    requires { ⌜ Shaped g ⌝ }
+    requires { ⌜ (chosenAt g ≤ length (now w)) × (stamp ≤ mostStamp) ⌝ }
+    requires { ⌜ PinsThere (now s) g at ⌝ }
+    ensures { λ r. ⌜ ((n : Net) → PinsAt (now (s .entry)) (g .w) (g .h) (g .k) at n → PinsPut g stamp n (now (w .entry)) (now (w .exit)) r) ⌝ }
+{
+    let from = layout::tiles_at(g);
+    let to = layout::links_at(g);
+    mark_pins(s, at, &mut w[from..to], g, stamp)
+}
+
+// Reads the lines of a net again, whose entries stand at `pins` and `edges`: the net is then at hand, where it keeps all its entries.
 pub fn read_net(s: &[u8], pins: usize, edges: usize, w: &mut [u32], g: Shape, stamp: u32) -> Again
     requires { ⌜ Shaped g ⌝ }
     requires { ⌜ (areasEnd g ≤ length (now w)) × (stamp ≤ mostStamp) × Older stamp (tilesOf g (now w)) ⌝ }
     requires { ⌜ NetThere (now s) g pins edges ⌝ }
-    ensures { λ r. ⌜ ((j : Job) (n : Net) → LinesOf (now (s .entry)) g pins edges j n → NetRead g stamp j n (now (w .entry)) (now (w .exit)) r) ⌝ }
+    ensures { λ r. ⌜ ((j : Job) (n : Net) → LinesOf (now (s .entry)) g pins edges j n → n .edges ≡ n .entries → NetRead g stamp j n (now (w .entry)) (now (w .exit)) r) ⌝ }
 {
-    let from = layout::tiles_at(g);
-    let to = layout::links_at(g);
-    let low = mark_pins(s, pins, &mut w[from..to], g, stamp);
+    let low = put_pins(s, pins, w, g, stamp);
     mark_edges(s, edges, w, g, stamp, low)
 }

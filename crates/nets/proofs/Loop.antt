@@ -1,6 +1,6 @@
 -- The nets of a text, one after the other.
 -- Assumes nothing.
-use mathlib.Core.List.{List, [], _∷_, _++_, append-assoc, append-nil}
+use mathlib.Core.List.{List, [], _∷_, _++_, map, append-assoc, append-nil}
 use mathlib.Core.Path.{_≡_, refl, sym, ap, ap₂, _∙_, subst}
 use Prim.Native.Nat.{ℕ, zero, suc, _+_, _-_, _*_, _≤_, _<_}
 use native.Mathlib.Decide.{decLt}
@@ -10,7 +10,7 @@ use lib.Seq.{getD-append-seam}
 use Rattle.layout.specs.Areas.{demandAt, tilesAt, linksAt, chosenAt}
 use Rattle.layout.specs.Dirs.{dirsOf}
 use Rattle.layout.specs.Parts.{part, part-at}
-use Rattle.layout.specs.Shapes.{sizesOf, Shaped, mostTiles}
+use Rattle.layout.specs.Shapes.{sizesOf, Shaped}
 use Rattle.layout.specs.Table.{pinsColumn, edgesColumn, tilesColumn, firstColumn, countColumn, viasColumn}
 use Rattle.layout.specs.declared.Shape.{Shape}
 use Rattle.lines.specs.Told.{refusedBy}
@@ -29,14 +29,22 @@ use Rattle.theory.specs.links.Nets.{NetOk, EachNet}
 use Rattle.theory.specs.links.Reading.{NetFine, gives-found, net-gives}
 use Rattle.theory.specs.links.Stretches.{offset}
 use Rattle.nets.specs.Rows.{RowAt}
-use Rattle.nets.specs.Nets.{NetReady, NetFound, SoRead, NetsReady, NetsFound, edgesOf, ahead}
-use Rattle.nets.proofs.Body.{few-edges}
+use Rattle.nets.specs.Nets.{NetReady, NetFound, SoRead, NetsReady, NetsFound, edgesOf, entriesOf, ahead}
+use Rattle.nets.proofs.Body.{few-entries}
 
 -- ---- lists with one net more at the end
 
+-- of any list that a net has
+module _ (of : Net → List ℕ) where
+  lists-snoc : (ns : List Net) (n : Net) → map of (ns ++ (n ∷ [])) ≡ map of ns ++ (of n ∷ [])
+  lists-snoc [] n = refl
+  lists-snoc (m ∷ ns) n = ap {B = List (List ℕ)} (λ l. of m ∷ l) (lists-snoc ns n)
+
 edges-snoc : (ns : List Net) (n : Net) → edgesOf (ns ++ (n ∷ [])) ≡ edgesOf ns ++ (n .edges ∷ [])
-edges-snoc [] n = refl
-edges-snoc (m ∷ ns) n = ap {B = List (List ℕ)} (λ l. m .edges ∷ l) (edges-snoc ns n)
+edges-snoc ns n = lists-snoc (λ m. m .edges) ns n
+
+entries-snoc : (ns : List Net) (n : Net) → entriesOf (ns ++ (n ∷ [])) ≡ entriesOf ns ++ (n .entries ∷ [])
+entries-snoc ns n = lists-snoc (λ m. m .entries) ns n
 
 demand-snoc : (e : ℕ) (xs : List (List ℕ)) (x : List ℕ) → demand e (xs ++ (x ∷ [])) ≡ demand e xs + occurs e x
 demand-snoc e [] x = omega arith
@@ -55,9 +63,9 @@ offset-end : (xs : List (List ℕ)) (x : List ℕ) → offset (xs ++ (x ∷ []))
 offset-end [] x = refl
 offset-end (y ∷ xs) x = omega (arith, offset-end xs x)
 
-edges-long : (ns : List Net) → length (edgesOf ns) ≡ length ns
-edges-long [] = refl
-edges-long (n ∷ ns) = ap suc (edges-long ns)
+entries-long : (ns : List Net) → length (entriesOf ns) ≡ length ns
+entries-long [] = refl
+entries-long (n ∷ ns) = ap suc (entries-long ns)
 
 module _ (P : Net → Type 0) where
   each-snoc : (ns : List Net) (n : Net) → EachNet P ns → P n → EachNet P (ns ++ (n ∷ []))
@@ -71,9 +79,9 @@ module _ (g : Shape) (shaped : Shaped g) where
   demand-few e [] h = omega arith
   demand-few e (n ∷ ns) h = omega (arith, h .0 .once e, demand-few e ns (h .1))
 
-  entries-few : (ns : List Net) → EachNet (NetOk (g .w) (g .h) (g .k)) ns → lengths (edgesOf ns) ≤ length ns * mostTiles
+  entries-few : (ns : List Net) → EachNet (NetOk (g .w) (g .h) (g .k)) ns → lengths (entriesOf ns) ≤ length ns * 8_064
   entries-few [] h = omega arith
-  entries-few (n ∷ ns) h = omega (arith, few-edges g shaped n (h .0), entries-few ns (h .1))
+  entries-few (n ∷ ns) h = omega (arith, few-entries g shaped n (h .0), entries-few ns (h .1))
 
 -- ---- a row is kept by what changes behind it
 
@@ -83,7 +91,7 @@ row-kept s W H K t t′ i k first net b h r = record {
   pins = subst (λ (p : ℕ). PinsAt s W H K p net) (sym (h (pinsColumn k) (omega arith))) (r .pins);
   edges = subst (λ (p : ℕ). EdgesAt s W H p net) (sym (h (edgesColumn k) (omega arith))) (r .edges);
   pin-tiles = h (tilesColumn k) (omega arith) ∙ r .pin-tiles;
-  edge-count = h (countColumn k) (omega arith) ∙ r .edge-count;
+  counts = h (countColumn k) (omega arith) ∙ r .counts;
   first-is = h (firstColumn k) (omega arith) ∙ r .first-is;
   low-is = h (viasColumn k) (omega arith) ∙ r .low-is;
 }
@@ -114,7 +122,7 @@ module _ (s : List ℕ) (g : Shape) (shaped : Shaped g) where
   -- ---- one net more
 
   module _ (ns : List Net) (entries : ℕ) (w₀ w table : List ℕ) (so : SoRead s g ns entries w₀ w table) where
-    pub nets-few : entries ≤ length ns * mostTiles
+    pub nets-few : entries ≤ length ns * 8_064
     nets-few = omega (arith, so .entries-are, entries-few g shaped ns (so .ok))
 
     pub nets-ready : (i : ℕ) → length ns ≡ i → i < mostNets → chosenAt g ≤ length w₀ → NetReady g i w
@@ -143,18 +151,18 @@ module _ (s : List ℕ) (g : Shape) (shaped : Shaped g) where
           gives-found (NetFine (g .w) (g .h) (g .k) ds) (netLines (sizesOf g) (i + 1) p) net (placeOf s c) (found-net .is) (net-gives (g .w) (g .h) (g .k) ds (omega (arith, shaped .k-least)) (i + 1) p) .0
 
       rows-more : (k : ℕ) → k < length (ns ++ (found-net .net ∷ []))
-          → RowAt s (g .w) (g .h) (g .k) table′ k (offset (edgesOf (ns ++ (found-net .net ∷ []))) k) (getD (ns ++ (found-net .net ∷ [])) k noNet)
+          → RowAt s (g .w) (g .h) (g .k) table′ k (offset (entriesOf (ns ++ (found-net .net ∷ []))) k) (getD (ns ++ (found-net .net ∷ [])) k noNet)
       rows-more k h = go (decLt k (length ns))
         where
-          go : Dec (k < length ns) → RowAt s (g .w) (g .h) (g .k) table′ k (offset (edgesOf (ns ++ (found-net .net ∷ []))) k) (getD (ns ++ (found-net .net ∷ [])) k noNet)
+          go : Dec (k < length ns) → RowAt s (g .w) (g .h) (g .k) table′ k (offset (entriesOf (ns ++ (found-net .net ∷ []))) k) (getD (ns ++ (found-net .net ∷ [])) k noNet)
           go (yes l) =
-              rw (edges-snoc ns net, offset-snoc (edgesOf ns) (net .edges) k (omega (arith, edges-long ns)), List·getD-append ns (net ∷ []) noNet k l)
-              (row-kept s (g .w) (g .h) (g .k) table table′ i k (offset (edgesOf ns) k) (getD ns k noNet) (omega arith) (found-net .rows-before) (so .rows k l))
+              rw (entries-snoc ns net, offset-snoc (entriesOf ns) (net .entries) k (omega (arith, entries-long ns)), List·getD-append ns (net ∷ []) noNet k l)
+              (row-kept s (g .w) (g .h) (g .k) table table′ i k (offset (entriesOf ns) k) (getD ns k noNet) (omega arith) (found-net .rows-before) (so .rows k l))
           go (no l) =
               let here : k ≡ length ns = omega (arith, long-more) in
-              let first : offset (edgesOf ns ++ (net .edges ∷ [])) (length ns) ≡ entries =
-              ap (offset (edgesOf ns ++ (net .edges ∷ []))) (sym (edges-long ns)) ∙ offset-end (edgesOf ns) (net .edges) ∙ sym (so .entries-are) in
-              rw (here, edges-snoc ns net, first, getD-append-seam ns net [] noNet)
+              let first : offset (entriesOf ns ++ (net .entries ∷ [])) (length ns) ≡ entries =
+              ap (offset (entriesOf ns ++ (net .entries ∷ []))) (sym (entries-long ns)) ∙ offset-end (entriesOf ns) (net .entries) ∙ sym (so .entries-are) in
+              rw (here, entries-snoc ns net, first, getD-append-seam ns net [] noNet)
               (subst (λ (m : ℕ). RowAt s (g .w) (g .h) (g .k) table′ m entries net) (sym count-is) (found-net .row))
 
       pub nets-more : SoRead s g (ns ++ (found-net .net ∷ [])) (entries + count) w₀ w′ table′
@@ -168,7 +176,7 @@ module _ (s : List ℕ) (g : Shape) (shaped : Shaped g) where
             marks = λ t. omega (arith, k .marks t, long-more);
             links = λ t. omega (arith, k .links t, long-more);
             ok = each-snoc (NetOk (g .w) (g .h) (g .k)) ns net (so .ok) net-is-ok;
-            entries-are = omega (arith, so .entries-are, found-net .count-is, lengths-snoc (edgesOf ns) (net .edges), ap lengths (edges-snoc ns net));
+            entries-are = omega (arith, so .entries-are, found-net .count-is, lengths-snoc (entriesOf ns) (net .entries), ap lengths (entries-snoc ns net));
             table-long = omega (arith, so .table-long, found-net .table-long);
             rows = rows-more;
           }
@@ -216,7 +224,7 @@ module _ (s : List ℕ) (g : Shape) (shaped : Shaped g) (n from : ℕ) (w₀ : L
     pub midway-lines : c .line ≤ from + 4 * i
     midway-lines = omega (arith, mid .lines, mid .count, lines-few (mid .done))
 
-    pub midway-few : entries ≤ i * mostTiles
+    pub midway-few : entries ≤ i * 8_064
     midway-few = omega (arith, nets-few s g shaped (mid .done) entries w₀ w table (mid .so-read), mid .count)
 
     -- the definitions read one net more
@@ -250,7 +258,7 @@ module _ (s : List ℕ) (g : Shape) (shaped : Shaped g) (n from : ℕ) (w₀ : L
 
     pub midway-count : i < n → (w′ table′ : List ℕ) (d : Cursor) (count : ℕ)
         → NetFound s g i entries (λ n. c .line + 3 + optionLines (n .low)) w w′ table table′ (netLines (sizesOf g) (i + 1) (placeOf s c)) d count
-        → entries + count ≤ (i + 1) * mostTiles
+        → entries + count ≤ (i + 1) * 8_064
     midway-count h w′ table′ d count f =
         let m = midway-next h w′ table′ d count f in
         omega (arith, nets-few s g shaped (m .done) (entries + count) w₀ w′ table′ (m .so-read), m .count)

@@ -15,7 +15,7 @@ use Rattle.model.specs.Limits.{mostNets}
 use Rattle.model.specs.Lists.{all, twice}
 use Rattle.model.specs.Read.{Place, refused, found, pinInside, pinAt, samePin, pinsLine}
 use Rattle.model.specs.Text.{bytes}
-use Rattle.net.specs.Table.{PinsAt, EdgesAt, markOf}
+use Rattle.net.specs.Table.{PinsAt, EdgesAt, countsOf, markOf}
 use Rattle.scan.specs.Keys.{judged, onKey, pins-law, behind-is}
 use Rattle.scan.specs.Lines.{Lined}
 use Rattle.scan.specs.Pins.{pinsOf}
@@ -122,13 +122,13 @@ module _ (t : List ℕ) (i a b c d e : ℕ) (turn : i < mostNets) (long : tableS
       ∙ getD-set-other t₁ (edgesColumn i) (viasColumn i) b 0 (λ p. omega arith)
       ∙ getD-set-other t (pinsColumn i) (viasColumn i) a 0 (λ p. omega arith)
 
-  pub row-stands : (s : List ℕ) (W H K : ℕ) (net : Net) → PinsAt s W H K a net → EdgesAt s W H b net → c ≡ differentTiles (net .pins) → e ≡ length (net .edges)
+  pub row-stands : (s : List ℕ) (W H K : ℕ) (net : Net) → PinsAt s W H K a net → EdgesAt s W H b net → c ≡ differentTiles (net .pins) → e ≡ countsOf net
       → getD t (viasColumn i) 0 ≡ markOf (net .low) → RowAt s W H K (rowPut t i a b c d e) i d net
-  row-stands s W H K net pins edges pin-tiles edge-count low = record {
+  row-stands s W H K net pins edges pin-tiles counts low = record {
     pins = rw row-pins pins;
     edges = rw row-edges edges;
     pin-tiles = row-tiles ∙ pin-tiles;
-    edge-count = row-count ∙ edge-count;
+    counts = row-count ∙ counts;
     first-is = row-first;
     low-is = row-low ∙ low;
   }

@@ -5,8 +5,8 @@ use mathlib.Core.Option.{Option, none, some}
 use mathlib.Core.Path.{_≡_, refl}
 use Prim.Native.Nat.{ℕ, zero, suc, _+_, _*_, _≤_, _<_}
 use lib.ListN.{length, getD}
-use Rattle.edges.specs.Reading.{linksOf, Few}
-use Rattle.layout.specs.Areas.{loadsAt, demandAt, flatAt, tilesAt, chosenAt, tilesOf}
+use Rattle.edges.specs.Reading.{Few}
+use Rattle.layout.specs.Areas.{loadsAt, demandAt, flatAt, tilesAt, chosenAt, tilesOf, linksOf}
 use Rattle.layout.specs.Table.{tableSize}
 use Rattle.layout.specs.declared.Shape.{Shape}
 use Rattle.lines.specs.Told.{refusedBy, After}
@@ -17,7 +17,7 @@ use Rattle.model.specs.Job.{Net, noNet, lengths}
 use Rattle.model.specs.Limits.{mostNets}
 use Rattle.model.specs.Lists.{occurs}
 use Rattle.model.specs.Overflow.{demand}
-use Rattle.model.specs.Read.{Place, Result, Reading, refused, found, next, _>>=_, give, Sizes, netLine, lowLine, pinsLine, edgesLine, netLines, nets}
+use Rattle.model.specs.Read.{Place, Result, Reading, refused, found, next, _>>=_, give, Sizes, netLine, lowLine, pinsLine, edgesLine, netWith, netLines, nets}
 use Rattle.text.specs.Refusals.{placeOf}
 use Rattle.text.specs.declared.Cursor.{Cursor}
 use Rattle.theory.specs.links.JobText.{optionLines, netsLines}
@@ -54,8 +54,8 @@ lowHolds size line (Unmarked r) = Unit {0}
 unfoldable pub bodyIn : Sizes → Option ℕ → Reading Net
 bodyIn z low = do
   pins ← pinsLine z
-  edges ← edgesLine z pins
-  give (record { low = low; pins = pins; edges = edges })
+  entries ← edgesLine z pins
+  give (netWith z low pins entries)
 
 -- all lines of a net behind its `net` line
 unfoldable pub restIn : Sizes → Reading Net
@@ -69,28 +69,29 @@ lines-are z i p = refl
 
 -- ---- one net
 
--- what the reading of net i, counted from 0, asks of the working numbers: they are as the nets before it leave them
+-- What the reading of net i, counted from 0, asks of the working numbers: they are as the nets before it leave them. A net has two stamps, 2 × i + 1 to read it and
+-- 2 × i + 2 to cut its rings.
 pub record NetReady (g : Shape) (i : ℕ) (w : List ℕ) : Type 0 where
   pub turn : i < mostNets
   pub room : chosenAt g ≤ length w
-  pub marks : Older (suc i) (tilesOf g w)
-  pub links : Older (suc i) (linksOf g w)
-  pub few : Few g (suc i) w
+  pub marks : Older (2 * i + 1) (tilesOf g w)
+  pub links : Older (2 * i + 1) (linksOf g w)
+  pub few : Few g (2 * i + 1) w
 
--- what net i leaves in the working numbers
+-- what net i leaves in the working numbers: the edges that it keeps are counted
 pub record NetCounted (g : Shape) (i : ℕ) (net : Net) (w w′ : List ℕ) : Type 0 where
   pub long : length w′ ≡ length w
   pub low : (k : ℕ) → k < demandAt g → getD w′ k 0 ≡ getD w k 0
   pub demand : (e : ℕ) → e < g .e → getD w′ (demandAt g + e) 0 ≡ getD w (demandAt g + e) 0 + occurs e (net .edges)
-  pub marks : Older (suc (suc i)) (tilesOf g w′)
-  pub links : Older (suc (suc i)) (linksOf g w′)
+  pub marks : Older (2 * i + 3) (tilesOf g w′)
+  pub links : Older (2 * i + 3) (linksOf g w′)
 
 -- a net was read, as r says, and the place after it; `line n` is its last line where it is the net n, and its layers begin at `first`
 pub record NetFound (s : List ℕ) (g : Shape) (i first : ℕ) (line : Net → ℕ) (w w′ table table′ : List ℕ) (r : Result Net) (c : Cursor) (count : ℕ) : Type 0 where
   pub net : Net
   pub is : r ≡ found net (placeOf s c)
   pub after : After (length s) (line net) c
-  pub count-is : count ≡ length (net .edges)
+  pub count-is : count ≡ length (net .entries)
   pub counted : NetCounted g i net w w′
   pub row : RowAt s (g .w) (g .h) (g .k) table′ i first net
   pub table-long : length table′ ≡ length table
@@ -106,17 +107,20 @@ NetTold s g i first line w w′ table table′ r (read c count) = NetFound s g i
 abbrev pub edgesOf : List Net → List (List ℕ)
 edgesOf ns = map (λ n. n .edges) ns
 
+abbrev pub entriesOf : List Net → List (List ℕ)
+entriesOf ns = map (λ n. n .entries) ns
+
 -- the nets ns were read; w₀ are the working numbers before the first of them
 pub record SoRead (s : List ℕ) (g : Shape) (ns : List Net) (entries : ℕ) (w₀ w table : List ℕ) : Type 0 where
   pub long : length w ≡ length w₀
   pub low : (k : ℕ) → k < demandAt g → getD w k 0 ≡ getD w₀ k 0
   pub demands : (e : ℕ) → e < g .e → getD w (demandAt g + e) 0 ≡ demand e (edgesOf ns)
-  pub marks : Older (suc (length ns)) (tilesOf g w)
-  pub links : Older (suc (length ns)) (linksOf g w)
+  pub marks : Older (suc (2 * length ns)) (tilesOf g w)
+  pub links : Older (suc (2 * length ns)) (linksOf g w)
   pub ok : EachNet (NetOk (g .w) (g .h) (g .k)) ns
-  pub entries-are : entries ≡ lengths (edgesOf ns)
+  pub entries-are : entries ≡ lengths (entriesOf ns)
   pub table-long : tableSize ≤ length table
-  pub rows : (i : ℕ) → i < length ns → RowAt s (g .w) (g .h) (g .k) table i (offset (edgesOf ns) i) (getD ns i noNet)
+  pub rows : (i : ℕ) → i < length ns → RowAt s (g .w) (g .h) (g .k) table i (offset (entriesOf ns) i) (getD ns i noNet)
 
 -- all n nets were read, as r says, behind `line` others
 pub record NetsFound (s : List ℕ) (g : Shape) (n line : ℕ) (w₀ w table : List ℕ) (r : Result (List Net)) (c : Cursor) (entries : ℕ) : Type 0 where

@@ -10,9 +10,9 @@ use text::Cursor;
 use text::Fault;
 use text::Refusal;
 ghost use mathlib.Core.Path.{_≡_};
-ghost use Prim.Native.Nat.{_+_, _<_, _≤_};
+ghost use Prim.Native.Nat.{_+_, _*_, _<_, _≤_};
 ghost use lib.ListN.{length, getD, set};
-ghost use Rattle.layout.specs.Areas.{tilesAt, chosenAt, tilesOf};
+ghost use Rattle.layout.specs.Areas.{tilesAt, chosenAt, tilesOf, linksOf};
 ghost use Rattle.layout.specs.Parts.{Outside};
 ghost use Rattle.layout.specs.Shapes.{sizesOf, Shaped};
 ghost use Rattle.layout.specs.Table.{viasColumn, tableSize};
@@ -25,7 +25,9 @@ ghost use Rattle.model.specs.Read.{netLine, lowLine, pinsLine, netLines, nets};
 ghost use Rattle.theory.specs.links.JobText.{optionLines};
 ghost use Rattle.pins.specs.Pins.{pinsIn, pinsTold, pinsMarked};
 ghost use Rattle.text.specs.Refusals.{placeOf};
-ghost use Rattle.nets.specs.Rows.{rowPut};
+ghost use Rattle.cut.specs.Dropped.{CutDone};
+ghost use Rattle.nets.specs.Rows.{mostEntries, rowPut};
+ghost use Rattle.nets.specs.Rings.{LinesAt, LinesCounted};
 ghost use Rattle.nets.specs.Nets.{turnTold, lowAt, lowTold, lowHolds, bodyIn, restIn, NetReady, NetTold, NetsReady, NetsTold};
 
 // The lines of a net: the place after them, and the entries of its `edges` line.
@@ -107,36 +109,52 @@ fn put_low(table: &mut [u32], i: usize, low: u32)
     table[layout::vias_column(i)] = low;
 }
 
-// What the `pins` and `edges` lines of a net say in its row.
-fn put_row(table: &mut [u32], row: Row, pins: Pins, edges: Edges)
+// What the `pins` and `edges` lines of a net say in its row: above 16 bits of its entries stand those that it drops.
+fn put_row(table: &mut [u32], row: Row, pins: Pins, edges: Edges, dropped: usize)
     requires { ⌜ (row .i < mostNets) × (tableSize ≤ length (now table)) ⌝ }
-    requires { ⌜ (pins .from ≤ 16777216) × (edges .from ≤ 16777216) × (pins .tiles ≤ 16777216) × (row .first ≤ 16777216) × (edges .entries ≤ 16777216) ⌝ }
-    ensures { λ _. ⌜ now (table .exit) ≡ rowPut (now (table .entry)) (row .i) (pins .from) (edges .from) (pins .tiles) (row .first) (edges .entries) ⌝ }
+    requires { ⌜ (pins .from ≤ 16777216) × (edges .from ≤ 16777216) × (pins .tiles ≤ 16777216) × (row .first ≤ mostEntries) ⌝ }
+    requires { ⌜ (edges .entries < 65536) × (dropped < 65536) ⌝ }
+    ensures { λ _. ⌜ now (table .exit) ≡ rowPut (now (table .entry)) (row .i) (pins .from) (edges .from) (pins .tiles) (row .first) (edges .entries + 65536 * dropped) ⌝ }
 {
     let i = row.i;
     table[layout::pins_column(i)] = pins.from as u32;
     table[layout::edges_column(i)] = edges.from as u32;
     table[layout::tiles_column(i)] = pins.tiles as u32;
     table[layout::first_column(i)] = row.first as u32;
-    table[layout::count_column(i)] = edges.entries as u32;
+    table[layout::count_column(i)] = (edges.entries + 65536 * dropped) as u32;
 }
 
-// The `pins` and `edges` lines of a net, behind its other ones, whose row has its lowest wanted layer already.
+// Cuts the rings of a net whose two lines are read, under a stamp of their own. How many of its entries it drops.
+fn cut_rings(s: &[u8], w: &mut [u32], g: Shape, stamp: u32, p: Pins, e: Edges) -> usize
+    requires { ⌜ Shaped g ⌝ }
+    requires { ⌜ (chosenAt g ≤ length (now w)) × (stamp ≤ mostStamp) × Older stamp (tilesOf g (now w)) × Older stamp (linksOf g (now w)) ⌝ }
+    requires { ⌜ LinesCounted (now s) g (p .from) (e .from) (e .ring) (now w) ⌝ }
+    ensures { λ r. ⌜ ((n : Net) → LinesAt (now (s .entry)) g (p .from) (e .from) (e .ring) n → CutDone g stamp n (now (w .entry)) (now (w .exit)) r) ⌝ }
+    ensures { λ _. ⌜ length (now (w .exit)) ≡ length (now (w .entry)) ⌝ }
+{
+    if !e.ring {
+        return 0;
+    }
+    cut::cut_net(s, p.from, e.from, w, g, stamp)
+}
+
+// The `pins` and `edges` lines of a net, behind its other ones, whose row has its lowest wanted layer already. The rings of its entries are cut.
 fn net_body(s: &[u8], c: Cursor, w: &mut [u32], g: Shape, table: &mut [u32], row: Row) -> NetRead
     requires { ⌜ Shaped g ⌝ }
     requires { ⌜ (c .at ≤ length (now s)) × (c .line < 100000) × (length (now s) ≤ 1048576) ⌝ }
-    requires { ⌜ (tableSize ≤ length (now table)) × (row .first ≤ 16777216) ⌝ }
+    requires { ⌜ (tableSize ≤ length (now table)) × (row .first ≤ mostEntries) ⌝ }
     requires { ⌜ NetReady g (row .i) (now w) ⌝ }
     ensures { λ r. ⌜ NetTold (now (s .entry)) g (row .i) (row .first) (λ _. c .line + 2) (now (w .entry)) (now (w .exit)) (now (table .entry)) (now (table .exit)) (bodyIn (sizesOf g) (lowAt (getD (now (table .entry)) (viasColumn (row .i)) 0)) (placeOf (now (s .entry)) c)) r ⌝ }
     ensures { λ _. ⌜ (length (now (w .exit)) ≡ length (now (w .entry))) × (length (now (table .exit)) ≡ length (now (table .entry))) ⌝ }
 {
-    let stamp = (row.i + 1) as u32;
+    let stamp = (2 * row.i + 1) as u32;
     match net_pins(s, c, w, g, stamp) {
         PinsRead::Refused(r) => NetRead::Refused(r),
         PinsRead::Line(p, d) => match edges::edges_line(s, d, w, g, stamp, p.tiles) {
             EdgesRead::Refused(r) => NetRead::Refused(r),
             EdgesRead::Line(e, f) => {
-                put_row(table, row, p, e);
+                let dropped = cut_rings(s, w, g, stamp + 1, p, e);
+                put_row(table, row, p, e, dropped);
                 NetRead::Net(f, e.entries)
             }
         },
@@ -147,7 +165,7 @@ fn net_body(s: &[u8], c: Cursor, w: &mut [u32], g: Shape, table: &mut [u32], row
 fn net_rest(s: &[u8], c: Cursor, w: &mut [u32], g: Shape, table: &mut [u32], row: Row) -> NetRead
     requires { ⌜ Shaped g ⌝ }
     requires { ⌜ (c .at ≤ length (now s)) × (c .line < 95000) × (length (now s) ≤ 1048576) ⌝ }
-    requires { ⌜ (tableSize ≤ length (now table)) × (row .first ≤ 16777216) ⌝ }
+    requires { ⌜ (tableSize ≤ length (now table)) × (row .first ≤ mostEntries) ⌝ }
     requires { ⌜ NetReady g (row .i) (now w) ⌝ }
     ensures { λ r. ⌜ NetTold (now (s .entry)) g (row .i) (row .first) (λ n. c .line + 2 + optionLines (n .low)) (now (w .entry)) (now (w .exit)) (now (table .entry)) (now (table .exit)) (restIn (sizesOf g) (placeOf (now (s .entry)) c)) r ⌝ }
     ensures { λ _. ⌜ (length (now (w .exit)) ≡ length (now (w .entry))) × (length (now (table .exit)) ≡ length (now (table .entry))) ⌝ }
@@ -165,7 +183,7 @@ fn net_rest(s: &[u8], c: Cursor, w: &mut [u32], g: Shape, table: &mut [u32], row
 fn read_net(s: &[u8], c: Cursor, w: &mut [u32], g: Shape, table: &mut [u32], row: Row) -> NetRead
     requires { ⌜ Shaped g ⌝ }
     requires { ⌜ (c .at ≤ length (now s)) × (c .line < 90000) × (length (now s) ≤ 1048576) ⌝ }
-    requires { ⌜ (tableSize ≤ length (now table)) × (row .first ≤ 16777216) ⌝ }
+    requires { ⌜ (tableSize ≤ length (now table)) × (row .first ≤ mostEntries) ⌝ }
     requires { ⌜ NetReady g (row .i) (now w) ⌝ }
     ensures { λ r. ⌜ NetTold (now (s .entry)) g (row .i) (row .first) (λ n. c .line + 3 + optionLines (n .low)) (now (w .entry)) (now (w .exit)) (now (table .entry)) (now (table .exit)) (netLines (sizesOf g) (row .i + 1) (placeOf (now (s .entry)) c)) r ⌝ }
     ensures { λ _. ⌜ (length (now (w .exit)) ≡ length (now (w .entry))) × (length (now (table .exit)) ≡ length (now (table .entry))) ⌝ }

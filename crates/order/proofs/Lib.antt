@@ -1,4 +1,2 @@
-mod Sums
-mod EdgeTurns
 mod Scores
 mod Scoring

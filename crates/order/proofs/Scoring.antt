@@ -14,9 +14,10 @@ use Rattle.model.specs.Job.{Job, netCount, netOf}
 use Rattle.model.specs.Limits.{mostNets}
 use Rattle.model.specs.Read.{Lent}
 use Rattle.model.specs.Score.{differentTiles, score}
+use Rattle.net.specs.Dropped.{Unmarked, unmarked-more, Remarked, remarked-same, remarked-then}
 use Rattle.net.specs.Table.{Table, PinTiles, Marks, table-set, beside-tiles, beside-vias}
 use Rattle.theory.specs.congestion.Sums.{same-cases}
-use Rattle.order.specs.Ready.{Ready, SomeJob, SomeNet, Scored}
+use Rattle.order.specs.Ready.{Ready, SomeJob, SomeNet, Scored, ready-remarked}
 use Rattle.order.specs.declared.Weights.{Weights}
 
 -- ---- one score is stored
@@ -77,69 +78,75 @@ module _ (table : List ℕ) (i v : ℕ) where
 
 -- ---- the loop
 
--- the first i scores are stored
-pub record Scoring (s : List ℕ) (g : Shape) (a : Weights) (w old : List ℕ) (n : ℕ) (table : List ℕ) (i : ℕ) : Type 0 where
+-- the first i scores are stored, and the marks and the links are of the first i stamps
+pub record Scoring (s : List ℕ) (g : Shape) (a : Weights) (w₀ old : List ℕ) (n : ℕ) (w table : List ℕ) (i : ℕ) : Type 0 where
   pub below : i ≤ n
+  pub marks : Remarked g (a .stamp + i) w₀ w
   pub long : length table ≡ length old
   pub left : (k : ℕ) → i ≤ k → getD table (tilesColumn k) 0 ≡ getD old (tilesColumn k) 0
   pub rows : (j : Job) → Table s j old → Table s j table
   pub lows : (k : ℕ) → lowIn table k ≡ lowIn old k
-  pub scores : (lent : Lent) (j : Job) → Ready s g a w old lent j → PinTiles j old → n ≡ netCount j → (k : ℕ) → k < i → scoreIn table k ≡ score j (netOf j (suc k))
+  pub scores : (lent : Lent) (j : Job) → Ready s g a w₀ old lent j → PinTiles j old → n ≡ netCount j → (k : ℕ) → k < i → scoreIn table k ≡ score j (netOf j (suc k))
 
-module _ (s : List ℕ) (g : Shape) (a : Weights) (w old : List ℕ) (n : ℕ) where
-  pub scoring-first : Scoring s g a w old n old 0
-  scoring-first = record { below = omega arith; long = refl; left = λ k h. refl; rows = λ j t. t; lows = λ k. refl; scores = λ lent j ready pins c k h. absurd (omega arith) }
+module _ (s : List ℕ) (g : Shape) (a : Weights) (w₀ old : List ℕ) (n : ℕ) where
+  pub scoring-first : SomeJob s g a w₀ old n → Unmarked g (suc (2 * n)) w₀ → Scoring s g a w₀ old n w₀ old 0
+  scoring-first o u = record {
+    below = omega arith;
+    marks = remarked-same g (suc (2 * n)) (a .stamp + 0) w₀ (omega (arith, o .ready .stamp, o .count)) u;
+    long = refl;
+    left = λ k h. refl;
+    rows = λ j t. t;
+    lows = λ k. refl;
+    scores = λ lent j ready pins c k h. absurd (omega arith);
+  }
 
-  module _ (table : List ℕ) (i : ℕ) (f : Scoring s g a w old n table i) where
-    still-ready : (lent : Lent) (j : Job) → Ready s g a w old lent j → Ready s g a w table lent j
-    still-ready lent j r = record {
-      accepted = r .accepted;
-      width = r .width;
-      height = r .height;
-      layers = r .layers;
-      alpha = r .alpha;
-      beta = r .beta;
-      gamma = r .gamma;
-      demands = r .demands;
-      capacities = r .capacities;
-      rows = f .rows j (r .rows);
-    }
+  module _ (w table : List ℕ) (i : ℕ) (f : Scoring s g a w₀ old n w table i) where
+    still-ready : (lent : Lent) (j : Job) → Ready s g a w₀ old lent j → Ready s g a w table lent j
+    still-ready lent j r = ready-remarked s g a (a .stamp + i) w₀ w old table lent j r (f .marks) (f .rows j (r .rows))
 
-    module _ (o : SomeJob s g a w old n) (h : i < n) where
-      pub net-there : SomeNet s g a w table i
-      net-there = record {
-        lent = o .lent;
-        job = o .job;
-        ready = still-ready (o .lent) (o .job) (o .ready);
-        there = omega (arith, o .count);
-        pins = f .left i (omega arith) ∙ o .pins i (omega (arith, o .count));
+    module _ (o : SomeJob s g a w₀ old n) where
+      pub scoring-marks : n ≤ i → Remarked g (suc (3 * n)) w₀ w
+      scoring-marks h = record {
+        out = f .marks .out;
+        after = unmarked-more g (a .stamp + i) (suc (3 * n)) w (omega (arith, o .ready .stamp, o .count, f .below)) (f .marks .after);
       }
 
-      pub few : (i < mostNets) × (tableSize ≤ length table)
-      few = (omega (arith, o .count, o .ready .accepted .net-count), f .rows (o .job) (o .ready .rows) .long)
+      module _ (h : i < n) where
+        pub net-there : SomeNet s g a w table i
+        net-there = record {
+          lent = o .lent;
+          job = o .job;
+          ready = still-ready (o .lent) (o .job) (o .ready);
+          there = omega (arith, o .count);
+          pins = f .left i (omega arith) ∙ o .pins i (omega (arith, o .count));
+        }
 
-      pub scoring-next : (v : ℕ)
-          → ((lent : Lent) (j : Job) → Ready s g a w table lent j → i < netCount j → getD table (tilesColumn i) 0 ≡ differentTiles (netOf j (suc i) .pins) → v ≡ score j (netOf j (suc i)))
-          → Scoring s g a w old n (scorePut table i v) (i + 1)
-      scoring-next v is = record {
-        below = omega arith;
-        long = put-long table i v ∙ f .long;
-        left = λ k l. put-tiles table i v k (omega arith) ∙ f .left k (omega arith);
-        rows = λ j t. put-rows table i v s j (f .rows j t);
-        lows = λ k. put-lows table i v (few .0) (few .1) k ∙ f .lows k;
-        scores = λ lent j ready pins c k l. go lent j ready pins c k l (decLt k i);
-      }
-        where
-          go : (lent : Lent) (j : Job) → Ready s g a w old lent j → PinTiles j old → n ≡ netCount j → (k : ℕ) → k < i + 1 → Dec (k < i) → scoreIn (scorePut table i v) k ≡ score j (netOf j (suc k))
-          go lent j ready pins c k l (yes d) = put-other table i v k d ∙ f .scores lent j ready pins c k d
-          go lent j ready pins c k l (no d) =
-              let e : k ≡ i = omega arith in
-              let b : i < netCount j = omega (arith, c) in
-              ap (scoreIn (scorePut table i v)) e ∙ put-here table i v (few .0) (few .1)
-              ∙ is lent j (still-ready lent j ready) b (f .left i (omega arith) ∙ pins i b)
-              ∙ ap (λ (x : ℕ). score j (netOf j (suc x))) (omega arith)
+        pub few : (i < mostNets) × (tableSize ≤ length table)
+        few = (omega (arith, o .count, o .ready .accepted .net-count), f .rows (o .job) (o .ready .rows) .long)
 
-    pub scoring-done : n ≤ i → (lent : Lent) (j : Job) → Ready s g a w old lent j → PinTiles j old → Marks j old → n ≡ netCount j → Scored s j table
+        pub scoring-next : (w′ : List ℕ) → Remarked g (a .stamp + (i + 1)) w w′ → (v : ℕ)
+            → ((lent : Lent) (j : Job) → Ready s g a w table lent j → i < netCount j → getD table (tilesColumn i) 0 ≡ differentTiles (netOf j (suc i) .pins) → v ≡ score j (netOf j (suc i)))
+            → Scoring s g a w₀ old n w′ (scorePut table i v) (i + 1)
+        scoring-next w′ m v is = record {
+          below = omega arith;
+          marks = remarked-then g (a .stamp + i) (a .stamp + (i + 1)) w₀ w w′ (f .marks) m;
+          long = put-long table i v ∙ f .long;
+          left = λ k l. put-tiles table i v k (omega arith) ∙ f .left k (omega arith);
+          rows = λ j t. put-rows table i v s j (f .rows j t);
+          lows = λ k. put-lows table i v (few .0) (few .1) k ∙ f .lows k;
+          scores = λ lent j ready pins c k l. go lent j ready pins c k l (decLt k i);
+        }
+          where
+            go : (lent : Lent) (j : Job) → Ready s g a w₀ old lent j → PinTiles j old → n ≡ netCount j → (k : ℕ) → k < i + 1 → Dec (k < i) → scoreIn (scorePut table i v) k ≡ score j (netOf j (suc k))
+            go lent j ready pins c k l (yes d) = put-other table i v k d ∙ f .scores lent j ready pins c k d
+            go lent j ready pins c k l (no d) =
+                let e : k ≡ i = omega arith in
+                let b : i < netCount j = omega (arith, c) in
+                ap (scoreIn (scorePut table i v)) e ∙ put-here table i v (few .0) (few .1)
+                ∙ is lent j (still-ready lent j ready) b (f .left i (omega arith) ∙ pins i b)
+                ∙ ap (λ (x : ℕ). score j (netOf j (suc x))) (omega arith)
+
+    pub scoring-done : n ≤ i → (lent : Lent) (j : Job) → Ready s g a w₀ old lent j → PinTiles j old → Marks j old → n ≡ netCount j → Scored s j table
     scoring-done h lent j ready pins lows c = record {
       rows = f .rows j (ready .rows);
       scores = λ k l. f .scores lent j ready pins c k (omega (arith, c, f .below));

@@ -29,10 +29,10 @@ pub record Added (g : Shape) (w : List ℕ) (e : ℕ) (v r : Density) : Type 0 w
   pub demand-most : demandIn g w e ≤ 2 ^ 32
   pub capacity-most : capacityIn g w e ≤ 2 ^ 32
 
--- r is D and C of a net of the job
-pub record DensityOf (j : Job) (n : Net) (r : Density) : Type 0 where
-  pub demand : r .demand ≡ sum (flatDemand j) (n .edges)
-  pub capacity : r .capacity ≡ sum (flatCapacity j) (n .edges)
+-- r is D and C over edges of the job
+pub record DensityOf (j : Job) (es : List ℕ) (r : Density) : Type 0 where
+  pub demand : r .demand ≡ sum (flatDemand j) es
+  pub capacity : r .capacity ≡ sum (flatCapacity j) es
 
 -- r gives the density term of a net of the job the value that D and C give it
 pub record Weighed (gamma : ℕ) (j : Job) (n : Net) (r : Density) : Type 0 where
@@ -46,5 +46,5 @@ weighed-none j n = record { most = omega arith; term = sym (none (sum (flatDeman
     none : (d c : ℕ) → densityTerm 0 d c ≡ 0
     none d c = let z : 1000 * 0 * d ≡ 0 = omega arith in ap (λ (k : ℕ). k / max c 1) z ∙ zero-div (max c 1)
 
-pub weighed-sums : (gamma : ℕ) (j : Job) (n : Net) (r : Density) → DensityOf j n r → Weighed gamma j n r
+pub weighed-sums : (gamma : ℕ) (j : Job) (n : Net) (r : Density) → DensityOf j (n .edges) r → Weighed gamma j n r
 weighed-sums gamma j n r d = record { most = omega (arith, d .demand); term = ap₂ (densityTerm gamma) (d .demand) (d .capacity) }

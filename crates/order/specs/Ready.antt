@@ -1,18 +1,20 @@
 -- What must stand where the nets of an accepted job are put in placing order.
 -- Assumes nothing.
 use mathlib.Core.List.{List}
+use mathlib.Core.Logic.{inr}
 use mathlib.Core.Path.{_≡_, ap, _∙_}
-use Prim.Native.Nat.{ℕ, suc, _+_, _<_}
+use Prim.Native.Nat.{ℕ, suc, _+_, _*_, _<_}
 use native.Mathlib.Omega.{arith}
-use lib.ListN.{length, getD}
-use Rattle.layout.specs.Areas.{demandAt, flatAt}
-use Rattle.layout.specs.Parts.{Outside}
+use lib.ListN.{getD}
+use Rattle.layout.specs.Areas.{demandAt, flatAt, tilesAt, linksAt}
+use Rattle.layout.specs.Parts.{part-outside, Outside}
 use Rattle.layout.specs.Table.{tilesColumn, scoreIn}
 use Rattle.layout.specs.declared.Shape.{Shape}
 use Rattle.model.specs.Job.{Job, netCount, netOf}
 use Rattle.model.specs.Read.{Lent}
 use Rattle.model.specs.Score.{differentTiles, score}
 use Rattle.net.specs.Checked.{Checked}
+use Rattle.net.specs.Dropped.{Unmarked, Remarked}
 use Rattle.net.specs.Table.{Table, PinTiles, Marks}
 use Rattle.theory.specs.links.Reading.{Accepted}
 use Rattle.flat.specs.FlatPlan.{FlatDemands, FlatCapacities}
@@ -27,6 +29,8 @@ pub record Ready (s : List ℕ) (g : Shape) (a : Weights) (w table : List ℕ) (
   pub alpha : a .alpha ≡ j .alpha
   pub beta : a .beta ≡ j .beta
   pub gamma : a .gamma ≡ j .gamma
+  -- the stamps of the scoring come after two for each net
+  pub stamp : a .stamp ≡ suc (2 * netCount j)
   -- d(e) and c(e) of the flat plan
   pub demands : FlatDemands g j w
   pub capacities : FlatCapacities g j w
@@ -56,8 +60,8 @@ pub record Scored (s : List ℕ) (j : Job) (table : List ℕ) : Type 0 where
 
 -- so it is with a job whose text is checked, once its flat capacities are in their place
 pub ready-checked : (s : List ℕ) (g : Shape) (a : Weights) (w w′ table : List ℕ) (lent : Lent) (j : Job) → Accepted lent j → Checked s g j w table
-    → Outside (flatAt g) (g .e) w w′ → FlatCapacities g j w′ → a .alpha ≡ j .alpha → a .beta ≡ j .beta → a .gamma ≡ j .gamma → Ready s g a w′ table lent j
-ready-checked s g a w w′ table lent j acc checked out flat alpha-is beta-is gamma-is = record {
+    → Outside (flatAt g) (g .e) w w′ → FlatCapacities g j w′ → a .alpha ≡ j .alpha → a .beta ≡ j .beta → a .gamma ≡ j .gamma → a .stamp ≡ suc (2 * netCount j) → Ready s g a w′ table lent j
+ready-checked s g a w w′ table lent j acc checked out flat alpha-is beta-is gamma-is stamp-is = record {
   accepted = acc;
   width = ap (λ (h : Shape). h .w) (checked .shape);
   height = ap (λ (h : Shape). h .h) (checked .shape);
@@ -65,7 +69,33 @@ ready-checked s g a w w′ table lent j acc checked out flat alpha-is beta-is ga
   alpha = alpha-is;
   beta = beta-is;
   gamma = gamma-is;
+  stamp = stamp-is;
   demands = λ e b. out .low (demandAt g + e) (omega arith) ∙ checked .demand e b;
   capacities = flat;
   rows = checked .rows;
+}
+
+-- and once the marks and the links of its tiles are others, and the table has more
+pub ready-remarked : (s : List ℕ) (g : Shape) (a : Weights) (n : ℕ) (w w′ table table′ : List ℕ) (lent : Lent) (j : Job) → Ready s g a w table lent j → Remarked g n w w′
+    → Table s j table′ → Ready s g a w′ table′ lent j
+ready-remarked s g a n w w′ table table′ lent j r m rows = record {
+  accepted = r .accepted;
+  width = r .width;
+  height = r .height;
+  layers = r .layers;
+  alpha = r .alpha;
+  beta = r .beta;
+  gamma = r .gamma;
+  stamp = r .stamp;
+  demands = λ e b. m .out .low (demandAt g + e) (omega arith) ∙ r .demands e b;
+  capacities = λ e b. m .out .low (flatAt g + e) (omega arith) ∙ r .capacities e b;
+  rows = rows;
+}
+
+-- and the marks and the links of its tiles are those of the reading
+pub unmarked-checked : (s : List ℕ) (g : Shape) (w w′ table : List ℕ) (j : Job) → Checked s g j w table → Outside (flatAt g) (g .e) w w′ → (n : ℕ) → n ≡ netCount j
+    → Unmarked g (suc (2 * n)) w′
+unmarked-checked s g w w′ table j checked out n e = record {
+  marks = λ t. omega (arith, ap (λ (a : List ℕ). getD a t 0) (part-outside (flatAt g) (g .e) w w′ out (tilesAt g) (g .t) (inr (omega arith))), checked .marks t);
+  links = λ t. omega (arith, ap (λ (a : List ℕ). getD a t 0) (part-outside (flatAt g) (g .e) w w′ out (linksAt g) (g .t) (inr (omega arith))), checked .links t);
 }

@@ -2,14 +2,15 @@
 -- Assumes nothing.
 use mathlib.Core.List.{List, []}
 use mathlib.Core.Path.{_≡_}
-use Prim.Native.Nat.{ℕ, suc, _-_, _≤_}
+use Prim.Native.Nat.{ℕ, suc, _-_, _*_, _≤_}
+use lib.Dec.{ltb}
 use lib.ListN.{drop, getD, set, replicate}
-use Rattle.layout.specs.Areas.{tilesOf}
-use Rattle.layout.specs.Table.{pinsColumn, edgesColumn, firstColumn, countColumn}
+use Rattle.layout.specs.Areas.{tilesOf, linksOf}
+use Rattle.layout.specs.Table.{pinsColumn, edgesColumn, firstColumn, entriesIn, droppedIn}
 use Rattle.layout.specs.declared.Shape.{Shape}
 use Rattle.marks.specs.Marks.{Older}
-use Rattle.model.specs.Demand3.{planIn}
-use Rattle.model.specs.Job.{Job, netCount, entryCount}
+use Rattle.model.specs.Demand3.{cutBy}
+use Rattle.model.specs.Job.{Job, netCount, netEntries, entryCount}
 use Rattle.model.specs.Plan.{plan, totalVias}
 use Rattle.model.specs.Read.{Lent}
 use Rattle.net.specs.SoFar.{SoFar}
@@ -17,7 +18,7 @@ use Rattle.net.specs.Table.{Table, TurnsIn}
 use Rattle.net.specs.Held.{Held}
 use Rattle.theory.specs.links.Flat.{limitAt}
 use Rattle.theory.specs.links.Reading.{Accepted}
-use Rattle.turn.specs.Turn.{Turn, OfJob, turnLimit, turnLayers, turnPlan, turnVias}
+use Rattle.turn.specs.Turn.{Turn, OfJob, turnLimit, turnPlan, turnAnswer, turnVias}
 use Rattle.placing.specs.declared.NetRow.{NetRow}
 
 -- what the net table has of net i, counted from 0
@@ -26,7 +27,8 @@ rowOf table i = record {
   pins = getD table (pinsColumn i) 0;
   edges = getD table (edgesColumn i) 0;
   first = getD table (firstColumn i) 0;
-  count = getD table (countColumn i) 0;
+  count = entriesIn table i;
+  dropped = ltb 0 (droppedIn table i);
 }
 
 -- ---- one turn
@@ -36,6 +38,7 @@ pub record RowTurn (s : List ℕ) (g : Shape) (stamp : ℕ) (m : ℕ → ℕ) (w
   pub grid : OfJob g (u .job)
   pub so-far : SoFar g (u .job) (u .plan) w
   pub older : Older stamp (tilesOf g w)
+  pub links : Older stamp (linksOf g w)
   pub limit-is : (e : ℕ) → m e ≡ turnLimit u e
   pub net-is : i ≡ u .entry .net - 1
   pub rows : Table s (u .job) table
@@ -49,8 +52,9 @@ pub record RowTurnSome (s : List ℕ) (g : Shape) (stamp : ℕ) (m : ℕ → ℕ
 pub record RowDone (g : Shape) (stamp : ℕ) (w answer answer′ : List ℕ) (i r : ℕ) (u : Turn) : Type 0 where
   pub so-far : SoFar g (u .job) (turnPlan u) w
   pub older : Older (suc stamp) (tilesOf g w)
+  pub links : Older (suc stamp) (linksOf g w)
   pub vias-are : r ≡ turnVias u
-  pub plan-is : planIn (u .job) answer′ ≡ set (planIn (u .job) answer) i (turnLayers u)
+  pub answer-is : cutBy (netEntries (u .job)) answer′ ≡ set (cutBy (netEntries (u .job)) answer) i (turnAnswer u)
   pub beyond : drop (entryCount (u .job)) answer′ ≡ drop (entryCount (u .job)) answer
 
 -- ---- all turns
@@ -62,7 +66,9 @@ pub record Start (s : List ℕ) (g : Shape) (n : ℕ) (m : ℕ → ℕ) (w table
   pub count : n ≡ netCount j
   pub limit-is : (e : ℕ) → m e ≡ limitAt j e
   pub so-far : SoFar g j (replicate (netCount j) []) w
-  pub older : Older (suc n) (tilesOf g w)
+  -- four stamps of each net were used
+  pub older : Older (suc (4 * n)) (tilesOf g w)
+  pub links : Older (suc (4 * n)) (linksOf g w)
   pub rows : Table s j table
   pub turns-are : TurnsIn j table
   pub room : entryCount j ≤ size

@@ -16,12 +16,13 @@ ghost use Rattle.model.specs.Read.{Lent};
 ghost use Rattle.turn.specs.Turn.{Turn};
 ghost use Rattle.placing.specs.Turns.{rowOf, RowTurn, RowTurnSome, RowDone, Start, StartSome, AllPlaced};
 
-// Of a net: where its entries stand in the text, where its layers begin in the answer list, and how many they are.
+// Of a net: where its entries stand in the text, where its layers begin in the answer list, how many they are, and whether some of them were dropped.
 pub struct NetRow {
     pub pins: usize,
     pub edges: usize,
     pub first: usize,
     pub count: usize,
+    pub dropped: bool,
 }
 
 // The row of net i, counted from 0.
@@ -34,7 +35,8 @@ fn row_of(table: &[u32], i: usize) -> NetRow
         pins: layout::index(table[layout::pins_column(i)]),
         edges: layout::index(table[layout::edges_column(i)]),
         first: layout::index(table[layout::first_column(i)]),
-        count: layout::index(table[layout::count_column(i)]),
+        count: layout::entries_in(table, i),
+        dropped: 0 < layout::dropped_in(table, i),
     }
 }
 
@@ -69,6 +71,7 @@ fn turn_of(
         pins: row.pins,
         edges: row.edges,
         stamp: turn.stamp,
+        dropped: row.dropped,
     };
     let vias = turn::take_turn(s, net, w, turn.frame, &mut answer[from..to], chart);
     table[layout::vias_column(turn.net)] = vias;
@@ -104,7 +107,7 @@ pub fn place_all(
         let turn = NetTurn {
             frame,
             net: i,
-            stamp: (job.nets + 1 + k) as u32,
+            stamp: (4 * job.nets + 1 + k) as u32,
         };
         vias += turn_of(s, w, table, answer, chart, turn) as u64;
     }

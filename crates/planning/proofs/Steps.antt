@@ -3,13 +3,13 @@
 use mathlib.Core.List.{List, []}
 use mathlib.Core.Logic.{inr}
 use mathlib.Core.Path.{_≡_, sym, ap, ap₂, _∙_}
-use Prim.Native.Nat.{ℕ, _+_, _-_, _*_, _≤_, _<_, max}
+use Prim.Native.Nat.{ℕ, suc, _+_, _-_, _*_, _≤_, _<_, max}
 use native.Mathlib.Omega.{arith}
 use lib.ListN.{length, getD, replicate}
 use lib.Seq.{sets}
 use Rattle.head.specs.declared.Head.{Head}
-use Rattle.layout.specs.Areas.{loadsAt, demandAt, flatAt, tilesAt, areasEnd, edge-room, tilesOf}
-use Rattle.layout.specs.Parts.{Outside, part-outside}
+use Rattle.layout.specs.Areas.{loadsAt, demandAt, flatAt, tilesAt, linksAt, areasEnd, edge-room}
+use Rattle.layout.specs.Parts.{part, Outside, part-outside}
 use Rattle.layout.specs.Shapes.{Shaped}
 use Rattle.layout.specs.declared.Shape.{Shape}
 use Rattle.model.specs.Grid.{eastCount}
@@ -19,9 +19,10 @@ use Rattle.model.specs.Overflow.{limit}
 use Rattle.model.specs.Plan.{plan}
 use Rattle.model.specs.Print.{ldofLine}
 use Rattle.model.specs.Read.{Lent, printNeed}
+use Rattle.net.specs.Dropped.{Unmarked, Remarked}
 use Rattle.net.specs.SoFar.{Capacities, SoFar}
 use Rattle.net.specs.Table.{PinTiles, Marks}
-use Rattle.order.specs.Ready.{Ready, SomeJob, Scored, ready-checked}
+use Rattle.order.specs.Ready.{Ready, SomeJob, Scored, ready-checked, unmarked-checked}
 use Rattle.order.specs.declared.Weights.{Weights}
 use Rattle.placing.specs.Turns.{Start}
 use Rattle.net.specs.Held.{Held}
@@ -43,7 +44,7 @@ use Rattle.flat.specs.declared.Limits.{Limits}
 use Rattle.tracks.specs.Shut.{Closed, first-loads, first-closed}
 use Rattle.turn.specs.Turn.{of-job}
 use Rattle.planning.specs.Closing.{Turned, PlanMade, PrintMade}
-use Rattle.planning.specs.Opening.{Given, OpenFound}
+use Rattle.planning.specs.Opening.{Given, given-remarked, OpenFound}
 use Rattle.planning.specs.declared.Totals.{Totals}
 
 -- ---- a text that is read
@@ -57,6 +58,9 @@ module _ (s : List ℕ) (lent : Lent) (w table : List ℕ) (h : Head) (k : JobFo
 
   layers-are : h .shape .k ≡ k .job .layers
   layers-are = ap (λ (x : Shape). x .k) (k .checked .shape)
+
+  pub nets-few : h .nets ≤ mostNets
+  nets-few = omega (arith, k .nets, job-accepted .net-count)
 
   pub flat-room : tilesAt (h .shape) ≤ length w
   flat-room = omega (arith, k .checked .room)
@@ -73,17 +77,19 @@ module _ (s : List ℕ) (lent : Lent) (w table : List ℕ) (h : Head) (k : JobFo
     pub still-room : tilesAt (h .shape) ≤ length w₁
     still-room = omega (arith, out .long, flat-room)
 
-    ready : (a : Weights) → a .alpha ≡ h .alpha → a .beta ≡ h .beta → a .gamma ≡ h .gamma → Ready s (h .shape) a w₁ table lent (k .job)
-    ready a x y z =
-        ready-checked s (h .shape) a w w₁ table lent (k .job) job-accepted (k .checked) out flat-here (x ∙ k .alpha) (y ∙ k .beta) (z ∙ k .gamma)
+    -- the weights are those of the head
+    module _ (a : Weights) (are : (a .alpha ≡ h .alpha) × (a .beta ≡ h .beta) × (a .gamma ≡ h .gamma) × (a .stamp ≡ suc (2 * h .nets))) where
+      ready : Ready s (h .shape) a w₁ table lent (k .job)
+      ready =
+          ready-checked s (h .shape) a w w₁ table lent (k .job) job-accepted (k .checked) out flat-here (are .0 ∙ k .alpha) (are .1 ∙ k .beta) (are .2 ∙ k .gamma) (omega (arith, are .3, k .nets))
 
-    pub some-job : (a : Weights) → a .alpha ≡ h .alpha → a .beta ≡ h .beta → a .gamma ≡ h .gamma → SomeJob s (h .shape) a w₁ table (h .nets)
-    some-job a x y z = record { lent = lent; job = k .job; ready = ready a x y z; pins = k .checked .pin-tiles; count = k .nets }
+      pub some-job : SomeJob s (h .shape) a w₁ table (h .nets)
+      some-job = record { lent = lent; job = k .job; ready = ready; pins = k .checked .pin-tiles; count = k .nets }
 
-    tiles-same : tilesOf (h .shape) w₁ ≡ tilesOf (h .shape) w
-    tiles-same = part-outside (flatAt (h .shape)) (h .shape .e) w w₁ out (tilesAt (h .shape)) (h .shape .t) (inr (omega arith))
+    pub reading-marks : Unmarked (h .shape) (suc (2 * h .nets)) w₁
+    reading-marks = unmarked-checked s (h .shape) w w₁ table (k .job) (k .checked) out (h .nets) (k .nets)
 
-    given : Given h w₁ lent (k .job)
+    given : Given 2 h w₁ lent (k .job)
     given = record {
       accepted = job-accepted;
       shape = k .checked .shape;
@@ -94,24 +100,25 @@ module _ (s : List ℕ) (lent : Lent) (w table : List ℕ) (h : Head) (k : JobFo
       flat = flat-here;
       demands = λ e b. out .low (demandAt (h .shape) + e) (omega arith) ∙ k .checked .demand e b;
       loads = λ i b. out .low (loadsAt (h .shape) + i) (omega arith) ∙ k .checked .loads (loadsAt (h .shape) + i) (omega arith) (omega arith);
-      marks = λ t. omega (arith, ap (λ (l : List ℕ). getD l t 0) tiles-same, k .checked .marks t, k .nets);
+      unmarked = reading-marks;
       count = k .nets;
     }
 
     -- and its nets are scored
-    pub opened : (a : Weights) → a .alpha ≡ h .alpha → a .beta ≡ h .beta → a .gamma ≡ h .gamma → (table′ : List ℕ)
-        → ((l : Lent) (j : Job) → Ready s (h .shape) a w₁ table l j → PinTiles j table → Marks j table → h .nets ≡ netCount j → Scored s j table′) → OpenFound s lent w₁ table′ h
-    opened a x y z table′ scored = record {
+    pub opened : (a : Weights) → (a .alpha ≡ h .alpha) × (a .beta ≡ h .beta) × (a .gamma ≡ h .gamma) × (a .stamp ≡ suc (2 * h .nets)) → (w₂ table′ : List ℕ)
+        → ((l : Lent) (j : Job) → Ready s (h .shape) a w₁ table l j → PinTiles j table → Marks j table → h .nets ≡ netCount j → Scored s j table′)
+        → Remarked (h .shape) (suc (3 * h .nets)) w₁ w₂ → OpenFound s lent w₂ table′ h
+    opened a are w₂ table′ scored remarked = record {
       job = k .job;
       place = k .place;
       is = k .is;
-      given = given;
-      scored = scored lent (k .job) (ready a x y z) (k .checked .pin-tiles) (k .checked .lows) (k .nets);
+      given = given-remarked 2 3 h w₁ w₂ lent (k .job) given remarked;
+      scored = scored lent (k .job) (ready a are) (k .checked .pin-tiles) (k .checked .lows) (k .nets);
     }
 
 -- ---- a job whose order stands
 
-module _ (s : List ℕ) (h : Head) (w table : List ℕ) (size : ℕ) (lent : Lent) (j : Job) (at : Turned s h w table size lent j) where
+module _ (s : List ℕ) (h : Head) (w table : List ℕ) (size : ℕ) (lent : Lent) (j : Job) (at : Turned 4 s h w table size lent j) where
   abbrev g : Shape
   g = h .shape
 
@@ -155,10 +162,9 @@ module _ (s : List ℕ) (h : Head) (w table : List ℕ) (size : ℕ) (lent : Len
       pub all-room : areasEnd (h .shape) ≤ length w₂
       all-room = omega (arith, shut .outside .long, out .long, at .given .room)
 
-      tiles-kept : tilesOf (h .shape) w₂ ≡ tilesOf (h .shape) w
-      tiles-kept =
-          part-outside (loadsAt g) (loadsAt g) w₁ w₂ (shut .outside) (tilesAt g) (g .t) (inr (omega arith))
-          ∙ part-outside (demandAt g) (g .e) w w₁ out (tilesAt g) (g .t) (inr (omega arith))
+      -- what is kept by tile is as it was
+      kept : (a : ℕ) → tilesAt (h .shape) ≤ a → part a (h .shape .t) w₂ ≡ part a (h .shape .t) w
+      kept a b = part-outside (loadsAt g) (loadsAt g) w₁ w₂ (shut .outside) a (g .t) (inr (omega arith)) ∙ part-outside (demandAt g) (g .e) w w₁ out a (g .t) (inr (omega arith))
 
       first : SoFar (h .shape) j (replicate (netCount j) []) w₂
       first =
@@ -181,7 +187,8 @@ module _ (s : List ℕ) (h : Head) (w table : List ℕ) (size : ℕ) (lent : Len
         count = at .given .count;
         limit-is = λ e. ap (λ (x : Limits). limitAt x e) m-is ∙ limits-told .each e;
         so-far = first;
-        older = λ t. omega (arith, ap (λ (l : List ℕ). getD l t 0) tiles-kept, at .given .marks t);
+        older = λ t. omega (arith, ap (λ (l : List ℕ). getD l t 0) (kept (tilesAt g) (omega arith)), at .given .unmarked .marks t);
+        links = λ t. omega (arith, ap (λ (l : List ℕ). getD l t 0) (kept (linksAt g) (omega arith)), at .given .unmarked .links t);
         rows = at .rows;
         turns-are = at .turns;
         room = at .room;
@@ -192,7 +199,7 @@ module _ (s : List ℕ) (h : Head) (w table : List ℕ) (size : ℕ) (lent : Len
 
 -- ---- what the counting of its nets asks
 
-module _ (s : List ℕ) (h : Head) (w table : List ℕ) (size : ℕ) (lent : Lent) (j : Job) (at : Turned s h w table size lent j) where
+module _ (s : List ℕ) (h : Head) (w table : List ℕ) (size : ℕ) (lent : Lent) (j : Job) (at : Turned 3 s h w table size lent j) where
   pub directives-asked : Asked s (h .shape) table lent j
   directives-asked = record {
     accepted = at .given .accepted;
@@ -209,7 +216,7 @@ module _ (s : List ℕ) (h : Head) (w table : List ℕ) (size : ℕ) (lent : Len
 
 -- ---- a plan that is made
 
-module _ (s : List ℕ) (h : Head) (w table answer answer′ table′ : List ℕ) (t : Totals) (lent : Lent) (j : Job) (at : Turned s h w table (length answer) lent j) (made : PlanMade j answer answer′ table′ t) (last : Ldof) (last-told : ldofText last ≡ ldofLine j) where
+module _ (s : List ℕ) (h : Head) (w table answer answer′ table′ : List ℕ) (t : Totals) (lent : Lent) (j : Job) (at : Turned 3 s h w table (length answer) lent j) (made : PlanMade j answer answer′ table′ t) (last : Ldof) (last-told : ldofText last ≡ ldofLine j) where
   acc : Accepted lent j
   acc = at .given .accepted
 

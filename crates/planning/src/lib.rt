@@ -11,10 +11,11 @@ use reader::PrintRoom;
 use text::Refusal;
 use turn::Frame;
 ghost use mathlib.Core.Path.{_≡_};
-ghost use Prim.Native.Nat.{ℕ, _≤_};
+ghost use Prim.Native.Nat.{ℕ, suc, _*_, _≤_};
 ghost use lib.ListN.{length, replicate};
 ghost use Rattle.layout.specs.Table.{tableSize};
 ghost use Rattle.model.specs.Job.{Job};
+ghost use Rattle.model.specs.Limits.{mostNets};
 ghost use Rattle.model.specs.Read.{Lent};
 ghost use Rattle.reader.specs.Whole.{lentBy, HeadTold};
 ghost use Rattle.reader.specs.declared.PrintRoom.the-variants.{Absent, Bytes};
@@ -48,13 +49,16 @@ pub enum Printed {
 
 // ---- before the order list stands
 
+// The weights of a job, and the first stamp that its scoring has: two to each net are those of the reading.
 fn weights_of(h: Head) -> Weights
-    ensures { λ r. ⌜ (r .alpha ≡ h .alpha) × (r .beta ≡ h .beta) × (r .gamma ≡ h .gamma) ⌝ }
+    requires { ⌜ h .nets ≤ mostNets ⌝ }
+    ensures { λ r. ⌜ (r .alpha ≡ h .alpha) × (r .beta ≡ h .beta) × (r .gamma ≡ h .gamma) × (r .stamp ≡ suc (2 * h .nets)) ⌝ }
 {
     Weights {
         alpha: h.alpha as u64,
         beta: h.beta as u64,
         gamma: h.gamma as u64,
+        stamp: (2 * h.nets + 1) as u32,
     }
 }
 
@@ -123,8 +127,8 @@ pub fn nets_of(o: Opened) -> usize
 
 // Places the nets in their turns.
 fn place_nets(s: &[u8], h: Head, w: &mut [u32], table: &mut [u32], answer: &mut [u8]) -> Totals
-    requires { ⌜ TurnedSome (now s) h (now w) (now table) (length (now answer)) ⌝ }
-    ensures { λ r. ⌜ ((lent : Lent) (j : Job) → Turned (now (s .entry)) h (now (w .entry)) (now (table .entry)) (length (now (answer .entry))) lent j → PlanMade j (now (answer .entry)) (now (answer .exit)) (now (table .exit)) r) ⌝ }
+    requires { ⌜ TurnedSome 4 (now s) h (now w) (now table) (length (now answer)) ⌝ }
+    ensures { λ r. ⌜ ((lent : Lent) (j : Job) → Turned 4 (now (s .entry)) h (now (w .entry)) (now (table .entry)) (length (now (answer .entry))) lent j → PlanMade j (now (answer .entry)) (now (answer .exit)) (now (table .exit)) r) ⌝ }
     ensures { λ _. ⌜ length (now (w .exit)) ≡ length (now (w .entry)) ⌝ }
 {
     let shape = h.shape;

@@ -6,7 +6,7 @@ use Prim.Native.Nat.{ℕ, _+_, _-_, _≤_, _<_}
 use native.Mathlib.Nat.{sub-zero}
 use native.Mathlib.Omega.{arith}
 use lib.ListN.{length, take, drop, getD, length-append}
-use Rattle.layout.specs.Table.{firstColumn, countColumn, viasColumn}
+use Rattle.layout.specs.Table.{firstColumn, entriesIn, viasColumn}
 use Rattle.model.specs.Print.{printNet}
 use Rattle.print.specs.Texts.{rowText, netsText, nets-more, nets-done}
 use Rattle.put.specs.Wrote.{Wrote, Left, left-start, left-then, left-as, left-done}
@@ -16,7 +16,7 @@ pub same-place : (table : List ℕ) (i k : ℕ) → i ≡ k → getD table i 0 �
 same-place table i k e = rw e
 
 -- one net: its vias v, and its k layers from f on
-module _ (table answer : List ℕ) (i f k v : ℕ) (ef : f ≡ getD table (firstColumn i) 0) (ek : k ≡ getD table (countColumn i) 0) (ev : v ≡ getD table (viasColumn i) 0) where
+module _ (table answer : List ℕ) (i f k v : ℕ) (ef : f ≡ getD table (firstColumn i) 0) (ek : k ≡ entriesIn table i) (ev : v ≡ getD table (viasColumn i) 0) where
   pub row-is : printNet (i + 1) v (take (f + k - f) (drop f answer)) ≡ rowText table answer i
   row-is = let e : f + k - f ≡ k = omega arith in rw (e, ef, ek, ev)
 

@@ -8,17 +8,18 @@ use lib.ListN.{length, take, drop, getD, length-map, List·getD-map}
 use lib.Seq.{sets}
 use Rattle.layout.specs.Table.{turnColumn}
 use Rattle.model.specs.Calls.{overwrite}
-use Rattle.model.specs.Job.{Net, Job, netCount, noNet, netOf, netEdges, entryCount}
+use Rattle.model.specs.Job.{Net, Job, netCount, noNet, netOf, netEntries, entryCount}
 use Rattle.model.specs.Limits.{mostNets}
 use Rattle.model.specs.Lists.{upFrom}
 use Rattle.model.specs.Overflow.{totalOverflow, maxOverflow}
-use Rattle.model.specs.Plan.{plan, netVias, totalVias}
+use Rattle.model.specs.Plan.{plan, answered, netVias, totalVias}
 use Rattle.model.specs.Print.{printLine, printNets, planLines, ldofLine, printed}
 use Rattle.model.specs.Read.{Lent, printNeed}
 use Rattle.model.specs.Score.{Entry, order}
 use Rattle.model.specs.Vias.{vias}
 use Rattle.theory.specs.links.Meets.{order-long}
 use Rattle.theory.specs.links.Placing.{noEntry, entryAt}
+use Rattle.theory.specs.links.Planned.{plan-in-turn}
 use Rattle.theory.specs.links.Reading.{Accepted}
 use Rattle.theory.specs.links.Room.{print-room}
 use Rattle.theory.specs.links.Stretches.{offset-room, cut-length, cut-at}
@@ -52,32 +53,32 @@ module _ (j : Job) where
 regroup : (f a b c : List ℕ) → f ++ (a ++ b ++ c) ≡ f ++ a ++ b ++ c
 regroup f a b c = simp append-assoc
 
-module _ (j : Job) (y : List (List ℕ)) (table answer : List ℕ) (held : Held j y table answer) where
-  edges-long : length (netEdges j) ≡ netCount j
-  edges-long = length-map {B = List ℕ} (j .nets) (λ n. n .edges)
+module _ (j : Job) (y : List (List ℕ)) (plan-long : length y ≡ netCount j) (table answer : List ℕ) (held : Held j y table answer) where
+  entries-long : length (netEntries j) ≡ netCount j
+  entries-long = length-map {B = List ℕ} (j .nets) (λ n. n .entries)
 
-  plan-long : length y ≡ netCount j
-  plan-long = sym (ap length (held .plan)) ∙ cut-length (netEdges j) answer ∙ edges-long
+  answered-long : length (answered (j .nets) y) ≡ netCount j
+  answered-long = sym (ap length (held .layers)) ∙ cut-length (netEntries j) answer ∙ entries-long
 
   -- net i + 1 stands at place i
   at-place : (i : ℕ) → netOf j (suc i) ≡ getD (j .nets) i noNet
   at-place i = let e : suc i - 1 ≡ i = omega arith in ap (λ (k : ℕ). getD (j .nets) k noNet) e
 
-  edges-at : (i : ℕ) → getD (netEdges j) i [] ≡ netOf j (suc i) .edges
-  edges-at i = List·getD-map {B = List ℕ} (λ n. n .edges) (j .nets) i noNet ∙ sym (ap (λ (n : Net). n .edges) (at-place i))
+  entries-at : (i : ℕ) → getD (netEntries j) i [] ≡ netOf j (suc i) .entries
+  entries-at i = List·getD-map {B = List ℕ} (λ n. n .entries) (j .nets) i noNet ∙ sym (ap (λ (n : Net). n .entries) (at-place i))
 
   -- every net has its row, and its stretch is inside the answer list
   pub held-rows : netCount j ≤ mostNets → Rows (netCount j) table answer
   held-rows few i h = record {
     few = omega arith;
-    row = omega (arith, held .table-long);
+    row = held .table-long;
     stretch =
         omega (
           arith,
           held .first i h,
           held .count i h,
-          ap length (edges-at i),
-          offset-room (netEdges j) i (omega (arith, edges-long)),
+          ap length (entries-at i),
+          offset-room (netEntries j) i (omega (arith, entries-long)),
           held .answer-long,
         );
   }
@@ -96,27 +97,27 @@ module _ (j : Job) (y : List (List ℕ)) (table answer : List ℕ) (held : Held 
           ∙ ap (λ (n : Net). vias j (n .pins) (n .edges) (getD y k [])) (at-place k)
           ∙ sym (vias-at j (j .nets) y k plan-long h)
 
-  layers-are : map (layersOf table answer) (upFrom 0 (netCount j)) ≡ y
-  layers-are = ap (λ (k : ℕ). map (layersOf table answer) (upFrom 0 k)) (sym plan-long) ∙ listed (layersOf table answer) [] y 0 at
+  layers-are : map (layersOf table answer) (upFrom 0 (netCount j)) ≡ answered (j .nets) y
+  layers-are = ap (λ (k : ℕ). map (layersOf table answer) (upFrom 0 k)) (sym answered-long) ∙ listed (layersOf table answer) [] (answered (j .nets) y) 0 at
     where
-      at : (k : ℕ) → k < length y → layersOf table answer (0 + k) ≡ getD y k []
+      at : (k : ℕ) → k < length (answered (j .nets) y) → layersOf table answer (0 + k) ≡ getD (answered (j .nets) y) k []
       at k b =
-          let h : k < netCount j = omega (arith, plan-long) in
+          let h : k < netCount j = omega (arith, answered-long) in
           let e : 0 + k ≡ k = omega arith in
           ap (layersOf table answer) e
-          ∙ ap₂ (λ (m o : ℕ). take m (drop o answer)) (held .count k h ∙ sym (ap length (edges-at k))) (held .first k h)
-          ∙ sym (cut-at (netEdges j) answer k (omega (arith, edges-long)))
-          ∙ ap (λ (p : List (List ℕ)). getD p k []) (held .plan)
+          ∙ ap₂ (λ (m o : ℕ). take m (drop o answer)) (held .count k h ∙ sym (ap length (entries-at k))) (held .first k h)
+          ∙ sym (cut-at (netEntries j) answer k (omega (arith, entries-long)))
+          ∙ ap (λ (p : List (List ℕ)). getD p k []) (held .layers)
 
   -- the nets' part of the print
-  pub nets-printed : netsText table answer 0 (netCount j) ≡ printNets 1 (netVias j (j .nets) y) y
+  pub nets-printed : netsText table answer 0 (netCount j) ≡ printNets 1 (netVias j (j .nets) y) (answered (j .nets) y)
   nets-printed = ap₂ (λ (vs : List ℕ) (ys : List (List ℕ)). printNets 1 vs ys) vias-are layers-are
 
   lines-printed : (turns : List Entry) → turnsOf table (netCount j) ≡ map (λ t. t .net) turns
       → linesText (netCount j) table answer (totalVias j y) (totalOverflow j y) (maxOverflow j y) ≡ planLines j turns y
   lines-printed turns e =
       ap₂ (λ (o n : List ℕ). printLine "order" o ++ n ++ totalsText (totalVias j y) (totalOverflow j y) (maxOverflow j y)) e nets-printed
-      ∙ regroup (printLine "order" (map (λ t. t .net) turns) ++ printNets 1 (netVias j (j .nets) y) y)
+      ∙ regroup (printLine "order" (map (λ t. t .net) turns) ++ printNets 1 (netVias j (j .nets) y) (answered (j .nets) y))
       (printLine "total_vias" (totalVias j y ∷ [])) (printLine "total_overflow" (totalOverflow j y ∷ [])) (printLine "max_overflow" (maxOverflow j y ∷ []))
 
   -- the whole print
@@ -139,7 +140,7 @@ pub record Handed (j : Job) (n : ℕ) (table : List ℕ) (vias total most : ℕ)
 module _ (lent : Lent) (j : Job) (acc : Accepted lent j) (table answer : List ℕ) (held : Held j (plan j) table answer)
     (n vias total most : ℕ) (last : Ldof) (handed : Handed j n table vias total most last) where
   pub plan-rows : Rows n table answer
-  plan-rows i h = held-rows j (plan j) table answer held (acc .net-count) i (omega (arith, handed .count))
+  plan-rows i h = held-rows j (plan j) (plan-in-turn lent j acc .one-each) table answer held (acc .net-count) i (omega (arith, handed .count))
 
   -- the nets of the turns are those of the order
   turns-are : turnsOf table (netCount j) ≡ map (λ t. t .net) (order j)
@@ -162,7 +163,7 @@ module _ (lent : Lent) (j : Job) (acc : Accepted lent j) (table answer : List �
       ap₂ (λ (m v : ℕ). planText m table answer v total most last) (handed .count) (handed .vias-told)
       ∙ ap₂ (λ (t m : ℕ). planText (netCount j) table answer (totalVias j (plan j)) t m last) (handed .total-told) (handed .most-told)
       ∙ ap (λ (l : List ℕ). linesText (netCount j) table answer (totalVias j (plan j)) (totalOverflow j (plan j)) (maxOverflow j (plan j)) ++ l) (handed .last-told)
-      ∙ plan-printed j (plan j) table answer held (order j) turns-are
+      ∙ plan-printed j (plan j) (plan-in-turn lent j acc .one-each) table answer held (order j) turns-are
 
   -- "a print buffer of 256 + 64 × N + 2 × A bytes" has room for it, and it fills its start
   module _ (w : List ℕ) (room : printNeed (netCount j) (entryCount j) ≤ length w) where

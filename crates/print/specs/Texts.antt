@@ -7,7 +7,7 @@ use native.Mathlib.Numerals.{add-one}
 use native.Mathlib.Omega.{arith}
 use lib.ListN.{length, getD, length-map}
 use Rattle.layout.specs.Parts.{part}
-use Rattle.layout.specs.Table.{turnColumn, firstColumn, countColumn, viasColumn, netColumns}
+use Rattle.layout.specs.Table.{turnColumn, firstColumn, entriesIn, viasColumn, tableSize, netColumns}
 use Rattle.model.specs.Limits.{mostNets}
 use Rattle.model.specs.Lists.{upFrom}
 use Rattle.model.specs.Print.{printLine, printNet, printNets}
@@ -22,7 +22,7 @@ abbrev pub viasOf : List ℕ → ℕ → ℕ
 viasOf table i = getD table (viasColumn i) 0
 
 abbrev pub layersOf : List ℕ → List ℕ → ℕ → List ℕ
-layersOf table answer i = part (getD table (firstColumn i) 0) (getD table (countColumn i) 0) answer
+layersOf table answer i = part (getD table (firstColumn i) 0) (entriesIn table i) answer
 
 -- its lines
 abbrev pub rowText : List ℕ → List ℕ → ℕ → List ℕ
@@ -44,8 +44,8 @@ nets-done table answer i n h = let e : n - i ≡ 0 = omega arith in ap (netsText
 -- the table has a row for net i, and its stretch is inside the answer list
 pub record RowInside (table answer : List ℕ) (i : ℕ) : Type 0 where
   pub few : i < mostNets
-  pub row : viasColumn i < length table
-  pub stretch : getD table (firstColumn i) 0 + getD table (countColumn i) 0 ≤ length answer
+  pub row : tableSize ≤ length table
+  pub stretch : getD table (firstColumn i) 0 + entriesIn table i ≤ length answer
 
 abbrev pub Rows : ℕ → List ℕ → List ℕ → Type 0
 Rows n table answer = (i : ℕ) → i < n → RowInside table answer i

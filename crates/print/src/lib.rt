@@ -4,7 +4,7 @@ ghost use mathlib.Core.Path.{_≡_};
 ghost use Prim.Native.Nat.{_+_, _*_, _≤_, _<_};
 ghost use lib.ListN.{length, getD};
 ghost use lib.Seq.{sets};
-ghost use Rattle.layout.specs.Table.{turnColumn, firstColumn, countColumn, viasColumn, netColumns};
+ghost use Rattle.layout.specs.Table.{turnColumn, firstColumn, viasColumn, netColumns};
 ghost use Rattle.model.specs.Calls.{refusal};
 ghost use Rattle.model.specs.Limits.{mostNets};
 ghost use Rattle.model.specs.Print.{printLine, printNet};
@@ -74,19 +74,12 @@ fn put_net(b: &mut [u8], at: usize, i: usize, vias: u32, layers: &[u8]) -> usize
 
 // ---- the nets, as the net table has them
 
-// Of the net at place i of the table, counted from 0: where its layers begin in the answer list, how many they are, and its vias.
+// Of the net at place i of the table, counted from 0: where its layers begin in the answer list, and its vias.
 fn first_of(table: &[u32], i: usize) -> u32
     requires { ⌜ (i < mostNets) × (firstColumn i < length (now table)) ⌝ }
     ensures { λ r. ⌜ r ≡ getD (now (table .entry)) (firstColumn i) 0 ⌝ }
 {
     table[layout::first_column(i)]
-}
-
-fn count_of(table: &[u32], i: usize) -> u32
-    requires { ⌜ (i < mostNets) × (countColumn i < length (now table)) ⌝ }
-    ensures { λ r. ⌜ r ≡ getD (now (table .entry)) (countColumn i) 0 ⌝ }
-{
-    table[layout::count_column(i)]
 }
 
 fn vias_of(table: &[u32], i: usize) -> u32
@@ -103,7 +96,7 @@ fn put_row(b: &mut [u8], at: usize, i: usize, table: &[u32], answer: &[u8]) -> u
     ensures { λ r. ⌜ Wrote at (rowText (now (table .entry)) (now (answer .entry)) i) (now (b .entry)) (now (b .exit)) r ⌝ }
 {
     let first = first_of(table, i) as usize;
-    let count = count_of(table, i) as usize;
+    let count = layout::entries_in(table, i);
     let vias = vias_of(table, i);
     put_net(b, at, i + 1, vias, &answer[first..first + count])
 }

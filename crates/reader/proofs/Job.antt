@@ -33,7 +33,7 @@ use Rattle.theory.specs.links.Directives.{low-inside}
 use Rattle.theory.specs.links.JobText.{option-few}
 use Rattle.theory.specs.links.Reading as reading
 use Rattle.theory.specs.links.Stretches.{offset}
-use Rattle.nets.specs.Nets.{SoRead, CountsCleared, NetsReady, edgesOf}
+use Rattle.nets.specs.Nets.{SoRead, CountsCleared, NetsReady, entriesOf}
 use Rattle.nets.specs.Rows.{RowAt}
 use Rattle.reader.specs.Whole.{lentBy, jobOf, RestFound, RestTold, HeadFound, JobFound, JobTold}
 use Rattle.reader.specs.declared.JobRead.{JobRead}
@@ -159,18 +159,18 @@ module _ (s : List ℕ) (working order : ℕ) (v : List ℕ) (h : Head) (c : Cur
       row-is : (i : ℕ) → i < netCount (jobOf h v (found-rest .nets-read)) → Row s (jobOf h v (found-rest .nets-read)) table i
       row-is i b =
           let z : i ≡ suc i - 1 = omega arith in
-          let k = subst (λ (m : ℕ). RowAt s (h .shape .w) (h .shape .h) (h .shape .k) table i (offset (edgesOf ns) i) (getD ns m noNet)) z (so .rows i b) in
-          record { pins = k .pins; edges = k .edges; edge-count = k .edge-count; first = k .first-is }
+          let k = subst (λ (m : ℕ). RowAt s (h .shape .w) (h .shape .h) (h .shape .k) table i (offset (entriesOf ns) i) (getD ns m noNet)) z (so .rows i b) in
+          record { pins = k .pins; edges = k .edges; counts = k .counts; first = k .first-is }
 
       pin-tiles-are : PinTiles (jobOf h v (found-rest .nets-read)) table
       pin-tiles-are i b =
           let z : i ≡ suc i - 1 = omega arith in
-          subst (λ (m : ℕ). RowAt s (h .shape .w) (h .shape .h) (h .shape .k) table i (offset (edgesOf ns) i) (getD ns m noNet)) z (so .rows i b) .pin-tiles
+          subst (λ (m : ℕ). RowAt s (h .shape .w) (h .shape .h) (h .shape .k) table i (offset (entriesOf ns) i) (getD ns m noNet)) z (so .rows i b) .pin-tiles
 
       lows-are : reading.Accepted (lentBy working order answer print) (jobOf h v (found-rest .nets-read)) → Marks (jobOf h v (found-rest .nets-read)) table
       lows-are acc i b =
           let z : i ≡ suc i - 1 = omega arith in
-          let e = subst (λ (m : ℕ). RowAt s (h .shape .w) (h .shape .h) (h .shape .k) table i (offset (edgesOf ns) i) (getD ns m noNet)) z (so .rows i b) .low-is in
+          let e = subst (λ (m : ℕ). RowAt s (h .shape .w) (h .shape .h) (h .shape .k) table i (offset (entriesOf ns) i) (getD ns m noNet)) z (so .rows i b) .low-is in
           mark-stays (getD table (viasColumn i) 0) (getD ns (suc i - 1) noNet .low) e (omega (arith, acc .layers .1, low-inside job lent acc i b))
 
       job-found : JobFound s (lentBy working order answer print) w₂ table h
@@ -187,6 +187,7 @@ module _ (s : List ℕ) (working order : ℕ) (v : List ℕ) (h : Head) (c : Cur
           loads = λ i a b. so .low i b ∙ head .counts i a (omega arith);
           demand = so .demands;
           marks = so .marks;
+          links = so .links;
           rows = record { long = so .table-long; rows = row-is };
           pin-tiles = pin-tiles-are;
           lows = lows-are (reading.accepted lent s job (found-rest .place) (head .is answer print ∙ found-rest .is working order));

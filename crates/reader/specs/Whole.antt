@@ -40,7 +40,7 @@ lentBy working order answer print = record { working = working; order = order; a
 
 -- ---- after the nets
 
--- the end of the text, and what N nets with A edges need: "11 after the whole text"
+-- the end of the text, and what N nets with A entries need: "11 after the whole text"
 unfoldable pub endIn : ℕ → ℕ → ℕ → Option ℕ → Reading (Unit {0})
 endIn N A answer print = do
   end

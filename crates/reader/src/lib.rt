@@ -18,6 +18,7 @@ ghost use Rattle.model.specs.Limits.{mostNets};
 ghost use Rattle.model.specs.Read.{nets, printNeed, printFits};
 ghost use Rattle.text.specs.Refusals.{placeOf};
 ghost use Rattle.nets.specs.Nets.{turnTold, CountsCleared, NetsReady};
+ghost use Rattle.nets.specs.Rows.{mostEntries};
 ghost use Rattle.reader.specs.Whole.{printLent, lentBy, endIn, RestTold, HeadTold, JobTold};
 
 // The print buffer that is lent: its length, or none for Plan.
@@ -39,9 +40,9 @@ pub enum JobRead {
     Refused(Refusal),
 }
 
-// Whether the print of n nets with so many edges fits: "256 + 64 × N + 2 × A bytes".
+// Whether the print of n nets with so many entries on their `edges` lines fits: "256 + 64 × N + 2 × A bytes".
 fn print_fits(n: usize, entries: usize, print: PrintRoom) -> bool
-    requires { ⌜ (n ≤ mostNets) × (entries ≤ 16777216) ⌝ }
+    requires { ⌜ (n ≤ mostNets) × (entries ≤ mostEntries) ⌝ }
     ensures { λ r. ⌜ r ≡ printFits (printNeed n entries) (printLent print) ⌝ }
 {
     match print {
@@ -52,7 +53,7 @@ fn print_fits(n: usize, entries: usize, print: PrintRoom) -> bool
 
 // The end of the text, and whether what is lent is long enough.
 fn read_end(s: &[u8], c: Cursor, n: usize, entries: usize, lists: Lists) -> Listed
-    requires { ⌜ (c .at ≤ length (now s)) × (c .line < 1048576) × (n ≤ mostNets) × (entries ≤ 16777216) ⌝ }
+    requires { ⌜ (c .at ≤ length (now s)) × (c .line < 1048576) × (n ≤ mostNets) × (entries ≤ mostEntries) ⌝ }
     ensures { λ r. ⌜ turnTold (now (s .entry)) r ≡ endIn n entries (lists .answer) (printLent (lists .print)) (placeOf (now (s .entry)) c) ⌝ }
 {
     if c.at < s.len() {

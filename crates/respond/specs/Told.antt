@@ -15,7 +15,7 @@ use Rattle.planning.specs.declared.Printed.the-variants.{Print, Refused}
 use Rattle.planning.specs.declared.Totals.{Totals}
 use Rattle.sort.specs.Entries.{noEntry}
 use Rattle.text.specs.Refusals.{numberOf, lineOf}
-use Rattle.text.specs.declared.Fault.the-variants.{Form, Range, Turn, PinTwice, EdgeTwice, Ring, Apart, Closed, NoLayer}
+use Rattle.text.specs.declared.Fault.the-variants.{Form, Range, Turn, PinTwice, EdgeTwice, Apart, Closed, NoLayer}
 use Rattle.text.specs.declared.Refusal.{Refusal}
 use Rattle.text.specs.declared.Refusal.the-variants.{TooLong, Line, Working, Order, Short}
 use Rattle.theory.specs.links.Table.{number-range}
@@ -50,7 +50,6 @@ some-number (Line Range l) = omega arith
 some-number (Line Turn l) = omega arith
 some-number (Line PinTwice l) = omega arith
 some-number (Line EdgeTwice l) = omega arith
-some-number (Line Ring l) = omega arith
 some-number (Line Apart l) = omega arith
 some-number (Line Closed l) = omega arith
 some-number (Line NoLayer l) = omega arith

@@ -6,7 +6,7 @@ use lib.ListN.{drop}
 use Rattle.model.specs.Read.{Place}
 use Rattle.text.specs.declared.Cursor.{Cursor}
 use Rattle.text.specs.declared.Fault.{Fault}
-use Rattle.text.specs.declared.Fault.the-variants.{Form, Range, Turn, PinTwice, EdgeTwice, Ring, Apart, Closed, NoLayer}
+use Rattle.text.specs.declared.Fault.the-variants.{Form, Range, Turn, PinTwice, EdgeTwice, Apart, Closed, NoLayer}
 use Rattle.text.specs.declared.Refusal.{Refusal}
 use Rattle.text.specs.declared.Refusal.the-variants.{TooLong, Line, Working, Order, Short}
 
@@ -21,7 +21,6 @@ faultNumber Range = 3
 faultNumber Turn = 4
 faultNumber PinTwice = 5
 faultNumber EdgeTwice = 6
-faultNumber Ring = 7
 faultNumber Apart = 8
 faultNumber Closed = 12
 faultNumber NoLayer = 13

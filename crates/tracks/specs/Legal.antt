@@ -23,7 +23,7 @@ use Rattle.theory.specs.congestion.Edge.{put-same, sum-over-put, isLegal→, �
 use Rattle.theory.specs.links.Best.{legal-iff}
 use Rattle.theory.specs.links.Flat.{limitAt}
 use Rattle.theory.specs.links.Layers.{layers-once, layers-in}
-use Rattle.theory.specs.links.Tests.{is-true, test-eq}
+use Rattle.theory.specs.congestion.Tests.{is-true, test-eq}
 use Rattle.tracks.specs.Masks.{bitsUp, bits-up, bits-few}
 
 -- by how much a layer may pass its capacity: the limit where the edge has overflow left, and else 0

@@ -20,7 +20,7 @@ use Rattle.theory.specs.congestion.Problem.{Bounds, LegalWithin, place}
 use Rattle.theory.specs.congestion.Sums.{same-refl, same-ne, in-head, in-tail, in-other}
 use Rattle.theory.specs.links.Flat.{problem}
 use Rattle.theory.specs.links.Layers.{in-layers}
-use Rattle.theory.specs.links.Tests.{is-true}
+use Rattle.theory.specs.congestion.Tests.{is-true}
 use Rattle.tracks.specs.Occupied.{loadPlace, capPlace, occupied, Free, oneMore, so-far-same, others-kept, occupied-long, legal-free, occupied-with}
 use Rattle.net.specs.Places.{edge-room, apart}
 

@@ -8,7 +8,7 @@ use native.Mathlib.Omega.{arith}
 use lib.ListN.{length, getD, set, length-set, length-map}
 use lib.Seq.{drop-cons, ext-getD, getD-set-same, getD-set-other}
 use Rattle.layout.specs.Areas.{chosenAt, listAt, aboveAt}
-use Rattle.layout.specs.Parts.{part, part-at, part-long, set-outside}
+use Rattle.layout.specs.Parts.{part, part-at, part-long, Outside, set-outside, outside-wider, outside-then, outside-same}
 use Rattle.layout.specs.Shapes.{Shaped}
 use Rattle.layout.specs.declared.Shape.{Shape}
 use Rattle.tracks.specs.OccupiedAll.{layersAt, edgesOf, layersIn}
@@ -53,6 +53,33 @@ module _ (g : Shape) (shaped : Shaped g) (a b c n : ℕ) (w₀ : List ℕ) (a-is
   putting-done h =
       let z : n - i ≡ 0 = omega arith in
       sym (o .rest ∙ rw z) ∙ (λ k. putBy (c-is k) w₀ (part (a-is k + 1) (n - 1) w₀) (part (b-is k + 1) (n - 1) w₀))
+
+-- ---- taken away
+
+-- nothing stands any more for the first i edges listed, which stand from a on; what stands for an edge does so from c on
+pub record Clearing (a c k : ℕ) (w₀ w : List ℕ) (i : ℕ) : Type 0 where
+  pub each : (t : ℕ) → t < i → getD w (c + getD w₀ (a + t) 0) 0 ≡ 0
+  pub outside : Outside c k w₀ w
+
+pub clearing-start : (a c k : ℕ) (w : List ℕ) → Clearing a c k w w 0
+clearing-start a c k w = record { each = λ t h. absurd (omega arith); outside = outside-same c k w }
+
+pub clearing-next : (a c k : ℕ) (w₀ w : List ℕ) (i : ℕ) → Clearing a c k w₀ w i → c + k ≤ a → getD w (a + i) 0 < k → c + k ≤ length w → Clearing a c k w₀ (set w (c + getD w (a + i) 0) 0) (i + 1)
+clearing-next a c k w₀ w i o apart small room = record {
+  each = λ t h. go t h (ℕ-discrete (getD w₀ (a + t) 0) (getD w (a + i) 0));
+  outside = outside-then c k w₀ w (set w (c + getD w (a + i) 0) 0) (o .outside)
+      (outside-wider (c + getD w (a + i) 0) 1 c k w (set w (c + getD w (a + i) 0) 0) (set-outside w (c + getD w (a + i) 0) 0) (omega arith) (omega arith));
+}
+  where
+    go : (t : ℕ) → t < i + 1 → Dec (getD w₀ (a + t) 0 ≡ getD w (a + i) 0) → getD (set w (c + getD w (a + i) 0) 0) (c + getD w₀ (a + t) 0) 0 ≡ 0
+    go t h (yes e) = ap (λ (x : ℕ). getD (set w (c + getD w (a + i) 0) 0) (c + x) 0) e ∙ getD-set-same w (c + getD w (a + i) 0) 0 0 (omega arith)
+    go t h (no d) =
+        getD-set-other w (c + getD w (a + i) 0) (c + getD w₀ (a + t) 0) 0 0 (λ z. d (omega (arith, z)))
+        ∙ o .each t (earlier (ℕ-discrete t i))
+      where
+        earlier : Dec (t ≡ i) → t < i
+        earlier (yes e) = absurd (d (ap (λ (x : ℕ). getD w₀ (a + x) 0) e ∙ sym (o .outside .high (a + i) (omega arith))))
+        earlier (no n) = omega (arith, n)
 
 -- ---- into the stretch
 

@@ -12,7 +12,7 @@ use lib.Seq.{slice, take-take, take-add, drop-at, drop-drop, length-take-le, ext
 use Rattle.sets.specs.Mask.{IsSet}
 use Rattle.sets.specs.Mask as mask
 use Rattle.engine.specs.Net.{Holds, HoldsNet, Placed}
-use Rattle.layout.specs.Areas.{tilesAt, listAt, aboveAt, engineAt, areasEnd}
+use Rattle.layout.specs.Areas.{tilesAt, linksAt, chosenAt, listAt, aboveAt, engineAt, areasEnd}
 use Rattle.layout.specs.Parts.{part, part-at, part-long, part-outside, Outside, outside-wider, outside-then}
 use Rattle.layout.specs.Shapes.{Shaped}
 use Rattle.layout.specs.declared.Shape.{Shape}
@@ -27,14 +27,14 @@ use Rattle.theory.specs.links.Best.{LegalFor, inWalk, cheapest, to-walk, vias-c
 use Rattle.theory.specs.links.Engine.{pinsAt, stopAt, pins-cover}
 use Rattle.theory.specs.links.Limits.{capacity-small, limit-small}
 use Rattle.theory.specs.links.Planned.{stands, turn-legal}
-use Rattle.theory.specs.links.Tests.{is-true, has-in}
+use Rattle.theory.specs.congestion.Tests.{is-true, has-in}
 use Rattle.tracks.specs.Legal.{legalMask, legal-in}
 use Rattle.tracks.specs.OccupiedAll.{layersAt, edgesOf, layersIn}
 use Rattle.net.specs.Places.{SmallCapacities, small-capacities}
 use Rattle.turn.specs.Kept.{outside-low, so-far-low}
 use Rattle.turn.specs.Steps.{masksAt, engineOf, KnownEdges, legalAt, LegalPut}
 use Rattle.turn.specs.Turn.{Turn, turnNet, turnWalk, walkLayers, turnLimit, turnVias, NetWalked, NetChosen}
-use Rattle.turn.proofs.Net.{net-ok, wide, high, as-long, edges-fit, walk-known}
+use Rattle.turn.proofs.Net.{net-ok, wide, high, as-long, edges-fit, walk-known, entries-known, entries-fit}
 
 -- ---- lists
 
@@ -195,11 +195,13 @@ module _ (g : Shape) (shaped : Shaped g) (n : ℕ) (w : List ℕ) (room : areasE
         record {
           grid = h .grid;
           tiles = h .tiles;
-          list = λ i b. whole .low (listAt g + i) (omega (arith, fit)) ∙ h .list i b;
+          list = λ i b. whole .low (listAt g + i) (omega (arith, entries-fit u g shaped (h .grid), shaped .e-tiles)) ∙ h .list i b;
           edges = edges-stand;
           layers = layers-stand;
           so-far = so-far-low g w w″ (outside-low g (engineAt g) (12 * g .m) w w″ (omega arith) whole) (u .job) _ _ (h .so-far);
           older = subst (Older (suc stamp)) (sym (part-outside (engineAt g) (12 * g .m) w w″ whole (tilesAt g) (g .t) (inl (omega arith)))) (h .older);
+          links = subst (Older (suc stamp)) (sym (part-outside (engineAt g) (12 * g .m) w w″ whole (linksAt g) (g .t) (inl (omega arith)))) (h .links);
+          free = λ e i z. whole .low (chosenAt g + e) (omega (arith, entries-known u g shaped (h .grid) e i, shaped .e-tiles)) ∙ h .free e i z;
         },
         placed-net .cost ∙ sym (vias-cost (u .job) (turnNet u .pins) (turnNet u .edges) (cheapest (legal (u .job) (u .plan)) (λ x. x) (u .job) (turnNet u)))
             ∙ ap (vias (u .job) (turnNet u .pins) (turnNet u .edges)) (sym (best-is (u .job) (u .plan) (turnNet u))),

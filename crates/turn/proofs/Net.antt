@@ -13,6 +13,7 @@ use Rattle.theory.specs.links.Best.{walk-once}
 use Rattle.theory.specs.links.Engine.{edges-few, walk-long}
 use Rattle.theory.specs.links.Nets.{NetOk, walk-edges}
 use Rattle.theory.specs.links.Planned.{turn-ok}
+use Rattle.theory.specs.links.Scores.{few-numbers}
 use Rattle.turn.specs.Turn.{Turn, turnNet, turnWalk, OfJob}
 
 module _ (u : Turn) where
@@ -47,6 +48,13 @@ module _ (u : Turn) where
 
     pub edges-known : (e : ℕ) → In e (turnNet u .edges) → e < g .e
     edges-known e i = omega (arith, edges-are, net-ok .known e i)
+
+    -- and of the entries of its line
+    pub entries-known : (e : ℕ) → In e (turnNet u .entries) → e < g .e
+    entries-known e i = omega (arith, edges-are, net-ok .entries-known e i)
+
+    pub entries-fit : length (turnNet u .entries) ≤ g .e
+    entries-fit = omega (arith, edges-are, few-numbers (gridEdges (u .job .width) (u .job .height)) (turnNet u .entries) (net-ok .entries-known) (net-ok .entries-once))
 
     pub walk-known : (e : ℕ) → In e (turnWalk u) → e < g .e
     walk-known e i = edges-known e (omega (arith, same-edges e))

@@ -24,7 +24,7 @@ layer-later : (a : ℕ) (es : List ℕ) (y : ℕ) (ys : List ℕ) (e : ℕ) → 
 layer-later a es y ys e h = ap (λ (q : Bool). cond q y (layerOf es ys e)) (ne-eqb a e (λ p. h (sym p)))
 
 -- an edge that is not among them keeps what stands for it
-put-other : (a : ℕ) (w es ls : List ℕ) (e : ℕ) → occurs e es ≡ 0 → getD (putBy a w es ls) (a + e) 0 ≡ getD w (a + e) 0
+pub put-other : (a : ℕ) (w es ls : List ℕ) (e : ℕ) → occurs e es ≡ 0 → getD (putBy a w es ls) (a + e) 0 ≡ getD w (a + e) 0
 put-other a w [] ls e z = refl
 put-other a w (b ∷ es) [] e z = refl
 put-other a w (b ∷ es) (l ∷ ls) e z =

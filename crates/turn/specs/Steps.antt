@@ -44,7 +44,16 @@ chosenIn g w e = getD w (chosenAt g + e) 0
 abbrev pub listedLayers : Shape → List ℕ → ℕ → List ℕ
 listedLayers g w n = map (chosenIn g w) (part (listAt g) n w)
 
+-- no layer stands any more for the first n edges listed
+pub record ChosenCleared (g : Shape) (n : ℕ) (w w′ : List ℕ) : Type 0 where
+  pub each : (i : ℕ) → i < n → chosenIn g w′ (getD w (listAt g + i) 0) ≡ 0
+  pub outside : Outside (chosenAt g) (2 * g .t) w w′
+
+-- the first n edges listed are edges of the grid
+abbrev pub KnownList : Shape → ℕ → List ℕ → Type 0
+KnownList g n w = (i : ℕ) → i < n → getD w (listAt g + i) 0 < g .e
+
 -- the first n edges listed are edges of the grid, and the layers that stand for them are small numbers
 pub record CanAnswer (g : Shape) (n : ℕ) (w : List ℕ) : Type 0 where
-  pub known : (i : ℕ) → i < n → getD w (listAt g + i) 0 < g .e
+  pub known : KnownList g n w
   pub small : (i : ℕ) → i < n → chosenIn g w (getD w (listAt g + i) 0) < 256

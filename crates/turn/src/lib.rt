@@ -2,6 +2,7 @@
 // chosen and written into its stretch of the answer list, and one more net is on these layers.
 use flat::Limits;
 use layout::Shape;
+ghost use mathlib.Core.Bool.{true};
 ghost use mathlib.Core.List.{List};
 ghost use mathlib.Core.Path.{_≡_};
 ghost use Prim.Native.Nat.{ℕ, _*_, _≤_};
@@ -17,14 +18,15 @@ ghost use Rattle.model.specs.Job.{Job, Net};
 ghost use Rattle.model.specs.Limits.{mostNets};
 ghost use Rattle.tracks.specs.OccupiedAll.{edgesOf, layersIn};
 ghost use Rattle.net.specs.Places.{SmallCapacities};
-ghost use Rattle.turn.specs.Turn.{Turn, turnLimit, turnVias, Before, BeforeSome, TurnAt, TurnSome, NetWalked, WalkedSome, NetChosen, ChosenSome, NetPlaced, TurnDone};
-ghost use Rattle.turn.specs.Steps.{KnownEdges, LegalPut, engineOf, putBy, CanAnswer, listedLayers};
+ghost use Rattle.turn.specs.Turn.{Turn, turnNet, turnLimit, turnVias, Before, BeforeSome, TurnAt, TurnSome, NetAgain, NetWalked, WalkedSome, NetChosen, ChosenSome, NetPlaced, TurnDone};
+ghost use Rattle.turn.specs.Steps.{KnownEdges, LegalPut, engineOf, putBy, ChosenCleared, KnownList, CanAnswer, listedLayers};
 
-// A net's entries stand at `pins` and `edges` of the text, and it is read under this stamp.
+// A net's entries stand at `pins` and `edges` of the text, and it is read under this stamp; whether some of its entries were dropped.
 pub struct NetAt {
     pub pins: usize,
     pub edges: usize,
     pub stamp: u32,
+    pub dropped: bool,
 }
 
 // What is the same at every turn: the grid, and the limits on one layer's overflow.
@@ -83,7 +85,7 @@ fn put_chosen(w: &mut [u32], g: Shape, n: usize)
 // Writes the net's layers in the order of its line into its stretch of the answer list.
 fn put_answer(w: &[u32], g: Shape, out: &mut [u8])
     requires { ⌜ Shaped g ⌝ }
-    requires { ⌜ (areasEnd g ≤ length (now w)) × (length (now out) ≤ g .m) ⌝ }
+    requires { ⌜ (areasEnd g ≤ length (now w)) × (length (now out) ≤ 2 * g .t) ⌝ }
     requires { ⌜ CanAnswer g (length (now out)) (now w) ⌝ }
     ensures { λ _. ⌜ now (out .exit) ≡ listedLayers g (now (w .entry)) (length (now (out .entry))) ⌝ }
 {
@@ -95,16 +97,56 @@ fn put_answer(w: &[u32], g: Shape, out: &mut [u8])
     }
 }
 
+// Takes away the layers that stand for the first n edges listed.
+fn clear_chosen(w: &mut [u32], g: Shape, n: usize)
+    requires { ⌜ Shaped g ⌝ }
+    requires { ⌜ (areasEnd g ≤ length (now w)) × (n ≤ 2 * g .t) × KnownList g n (now w) ⌝ }
+    ensures { λ _. ⌜ ChosenCleared g n (now (w .entry)) (now (w .exit)) ⌝ }
+{
+    let list = layout::list_at(g);
+    let chosen = layout::chosen_at(g);
+    for i in 0..n {
+        let edge = w[list + i] as usize;
+        w[chosen + edge] = 0;
+    }
+}
+
+// Reads a net again, some of whose entries were dropped: for these nothing is chosen. Its lowest tile.
+fn read_cut(s: &[u8], net: NetAt, w: &mut [u32], g: Shape) -> usize
+    requires { ⌜ Shaped g ⌝ }
+    requires { ⌜ (areasEnd g ≤ length (now w)) × (net .stamp ≤ mostStamp) ⌝ }
+    requires { ⌜ BeforeSome (now s) (net .pins) (net .edges) true g (net .stamp) (now w) ⌝ }
+    ensures { λ r. ⌜ ((u : Turn) → Before (now (s .entry)) (net .pins) (net .edges) true g (net .stamp) (now (w .entry)) u → NetAgain g (net .stamp) (now (w .entry)) (now (w .exit)) r u) ⌝ }
+{
+    let again = cut::read_net(s, net.pins, net.edges, w, g, net.stamp);
+    clear_chosen(w, g, again.entries);
+    again.low
+}
+
+// Reads any net again. Its lowest tile.
+fn read_again(s: &[u8], net: NetAt, w: &mut [u32], g: Shape) -> usize
+    requires { ⌜ Shaped g ⌝ }
+    requires { ⌜ (areasEnd g ≤ length (now w)) × (net .stamp ≤ mostStamp) ⌝ }
+    requires { ⌜ BeforeSome (now s) (net .pins) (net .edges) (net .dropped) g (net .stamp) (now w) ⌝ }
+    ensures { λ r. ⌜ ((u : Turn) → Before (now (s .entry)) (net .pins) (net .edges) (net .dropped) g (net .stamp) (now (w .entry)) u → NetAgain g (net .stamp) (now (w .entry)) (now (w .exit)) r u) ⌝ }
+{
+    if net.dropped {
+        return read_cut(s, net, w, g);
+    }
+    let again = netread::read_net(s, net.pins, net.edges, w, g, net.stamp);
+    again.low
+}
+
 // Reads the net again, and walks it. How many tiles it has.
 fn read_and_walk(s: &[u8], net: NetAt, w: &mut [u32], g: Shape) -> usize
     requires { ⌜ Shaped g ⌝ }
     requires { ⌜ (areasEnd g ≤ length (now w)) × (net .stamp ≤ mostStamp) ⌝ }
-    requires { ⌜ BeforeSome (now s) (net .pins) (net .edges) g (net .stamp) (now w) ⌝ }
-    ensures { λ r. ⌜ ((u : Turn) → Before (now (s .entry)) (net .pins) (net .edges) g (net .stamp) (now (w .entry)) u → NetWalked g (net .stamp) r (now (w .exit)) u) ⌝ }
+    requires { ⌜ BeforeSome (now s) (net .pins) (net .edges) (net .dropped) g (net .stamp) (now w) ⌝ }
+    ensures { λ r. ⌜ ((u : Turn) → Before (now (s .entry)) (net .pins) (net .edges) (net .dropped) g (net .stamp) (now (w .entry)) u → NetWalked g (net .stamp) r (now (w .exit)) u) ⌝ }
     ensures { λ _. ⌜ length (now (w .exit)) ≡ length (now (w .entry)) ⌝ }
 {
-    let again = netread::read_net(s, net.pins, net.edges, w, g, net.stamp);
-    walk::walk(w, g, net.stamp, again.low)
+    let low = read_again(s, net, w, g);
+    walk::walk(w, g, net.stamp, low)
 }
 
 // Chooses the layers of the net with n tiles that is walked. Its vias.
@@ -125,7 +167,7 @@ fn write_layers(w: &mut [u32], g: Shape, n: usize, out: &mut [u8])
     requires { ⌜ Shaped g ⌝ }
     requires { ⌜ areasEnd g ≤ length (now w) ⌝ }
     requires { ⌜ ChosenSome g n (length (now out)) (now w) ⌝ }
-    ensures { λ _. ⌜ ((u : Turn) (stamp : ℕ) → NetChosen g stamp n (now (w .entry)) u → NetPlaced g stamp (now (w .exit)) (now (out .exit)) u) ⌝ }
+    ensures { λ _. ⌜ ((u : Turn) (stamp : ℕ) → NetChosen g stamp n (now (w .entry)) u → length (now (out .entry)) ≡ length (turnNet u .entries) → NetPlaced g stamp (now (w .exit)) (now (out .exit)) u) ⌝ }
     ensures { λ _. ⌜ length (now (w .exit)) ≡ length (now (w .entry)) ⌝ }
 {
     put_chosen(w, g, n);
@@ -147,8 +189,8 @@ pub fn take_turn(
     requires { ⌜ Charted spanOf (now chart) ⌝ }
     requires { ⌜ Shaped (frame .shape) ⌝ }
     requires { ⌜ (areasEnd (frame .shape) ≤ length (now w)) × (net .stamp ≤ mostStamp) ⌝ }
-    requires { ⌜ TurnSome (now s) (net .pins) (net .edges) (frame .shape) (net .stamp) (limitAt (frame .limits)) (now w) (length (now out)) ⌝ }
-    ensures { λ r. ⌜ ((u : Turn) → TurnAt (now (s .entry)) (net .pins) (net .edges) (frame .shape) (net .stamp) (limitAt (frame .limits)) (now (w .entry)) (length (now (out .entry))) u → TurnDone (frame .shape) (net .stamp) (now (w .exit)) (now (out .exit)) r u) ⌝ }
+    requires { ⌜ TurnSome (now s) (net .pins) (net .edges) (net .dropped) (frame .shape) (net .stamp) (limitAt (frame .limits)) (now w) (length (now out)) ⌝ }
+    ensures { λ r. ⌜ ((u : Turn) → TurnAt (now (s .entry)) (net .pins) (net .edges) (net .dropped) (frame .shape) (net .stamp) (limitAt (frame .limits)) (now (w .entry)) (length (now (out .entry))) u → TurnDone (frame .shape) (net .stamp) (now (w .exit)) (now (out .exit)) r u) ⌝ }
     ensures { λ _. ⌜ length (now (w .exit)) ≡ length (now (w .entry)) ⌝ }
 {
     let g = frame.shape;

@@ -138,7 +138,7 @@ module _ (g : Shape) (shaped : Shaped g) (stamp : ℕ) (j : Job) (net : Net) (ro
         ∙ ap (bitsIn stamp) (go .outside .low (tilesAt g + x) (omega (arith, x-in)) ∙ sym (part-at (tilesAt g) (g .t) w₀ x x-in))
 
     marked : (d : ℕ) → d < 4 → bitOf (bitsAt stamp (tilesOf g w₀) (stopAt j net i .tile)) (8 + d) ≡ (way? (g .w) (g .h) (stopAt j net i .tile) d && has (net .edges) (wayEdge (g .w) (g .h) (stopAt j net i .tile) d))
-    marked d h = walks .hand .ways x d x-in h
+    marked d h = walks .hand .drawn .ways x d x-in h
 
     -- the way back
     back : (e : ℕ) → In e (net .edges) → (e ≡ aboveIn g w i) ↔ (suc e ≡ stopAt j net i .above)
@@ -194,7 +194,7 @@ module _ (g : Shape) (shaped : Shaped g) (stamp : ℕ) (j : Job) (net : Net) (ro
     visit-fits =
         let e : getD w (tilesAt g + stopAt j net i .tile) 0 ≡ getD (tilesOf g w₀) (stopAt j net i .tile) 0 =
         go .outside .low (tilesAt g + x) (omega (arith, x-in)) ∙ sym (part-at (tilesAt g) (g .t) w₀ x x-in) in
-        rw (go .stops i more) (omega (arith, e, walks .hand .fits x))
+        rw (go .stops i more) (omega (arith, e, walks .hand .drawn .fits x))
 
     -- branch k is the walk's next tile
     way-at : (k : ℕ) → k < kidsAt j net i → getD (branchesIn g stamp w i) k noWay ≡ record { tile = stopAt j net (n + k) .tile; edge = getD (walk j net) (n - 1 + k) 0 }
@@ -287,7 +287,7 @@ module _ (g : Shape) (shaped : Shaped g) (stamp : ℕ) (j : Job) (net : Net) (ro
     pins = λ k l q a b.
         ap (λ (p : ℕ). bitOf p (q - 1)) (go .pins k (omega (arith, all)))
         ∙ low-bit (bitsAt stamp (tilesOf g w₀) (stopAt j net k .tile)) (q - 1) (omega arith)
-        ∙ walks .hand .pins (stopAt j net k .tile) q (omega (arith, size, tile-inside j wide high net ok k l)) a b;
+        ∙ walks .hand .drawn .pins (stopAt j net k .tile) q (omega (arith, size, tile-inside j wide high net ok k l)) a b;
     outside = go .outside;
   }
     where

@@ -17,8 +17,9 @@ use Rattle.marks.specs.Words.{bitOf}
 use Rattle.model.specs.Lists.{In, has, keep}
 use Rattle.theory.specs.congestion.Sums.{in-head, in-tail}
 use Rattle.theory.specs.congestion.Base.{in-upFrom}
-use Rattle.theory.specs.links.Tests.{test-eq, and-both, both-and, not-false, has-in}
+use Rattle.theory.specs.congestion.Tests.{test-eq, and-both, both-and, not-false, has-in}
 use Rattle.theory.specs.walk.Stops.{branch?, branches, branch-test, far}
+use Rattle.net.specs.Ways.{way-is, way-room}
 use Rattle.theory.specs.walk.Ways.{lo, hi, near, way?, wayEdge, wayTile, waysBy, way-leads}
 use Rattle.walk.specs.Steps.{goes, onward, fourWays}
 
@@ -44,28 +45,14 @@ module _ (g : Shape) (shaped : Shaped g) where
   abbrev H : ℕ
   H = g .h
 
-  -- the code's ways are those of the walk theory
-  way-is : (x d : ℕ) → wayOf g x d ≡ record { tile = wayTile (g .w) x d; edge = wayEdge (g .w) (g .h) x d }
-  way-is x zero = let e : x + 1 ≡ suc x = omega arith in rw e
-  way-is x (suc zero) = rw (shaped .east-is)
-  way-is x (suc (suc zero)) = refl
-  way-is x (suc (suc (suc d))) = rw (shaped .east-is)
-
   module _ (x : ℕ) (inside : x < g .t) where
     in-grid : x < W * H
     in-grid = omega (arith, shaped .t-is)
 
-    -- a way inside the grid is one that the code can take
-    pub way-room : (d : ℕ) → d < 4 → T (way? (g .w) (g .h) x d) → WayRoom g x d
-    way-room d h t = record { way = h; tile = inside; west = λ e. west (subst (λ (k : ℕ). T (way? W H x k)) e t); south = λ e. leb→le W x (subst (λ (k : ℕ). T (way? W H x k)) e t) }
-      where
-        west : T (way? W H x 2) → 1 + x / W ≤ x
-        west u = omega (arith, div-add-mod x W, ltb→lt 0 (x % W) u, mul-le-mul-left (x / W) (shaped .w-least))
-
     -- what the marks m of the tile say of the net's edges es
     module _ (m : ℕ) (es : List ℕ) (marks : (d : ℕ) → d < 4 → bitOf m (8 + d) ≡ (way? (g .w) (g .h) x d && has es (wayEdge (g .w) (g .h) x d))) where
       pub used-room : (d : ℕ) → d < 4 → bitOf m (8 + d) ≡ true → WayRoom g x d
-      used-room d h e = way-room d h (and-both (way? W H x d) (has es (wayEdge W H x d)) (subst T (sym (sym (marks d h) ∙ e)) tt) .0)
+      used-room d h e = way-room g shaped x inside d h (and-both (way? W H x d) (has es (wayEdge W H x d)) (subst T (sym (sym (marks d h) ∙ e)) tt) .0)
 
       -- a is the edge above the tile, as `up` says it
       module _ (a up : ℕ) (back : (e : ℕ) → In e es → (e ≡ a) ↔ (suc e ≡ up)) where
@@ -76,7 +63,7 @@ module _ (g : Shape) (shaped : Shaped g) where
             bit = marks d h ∙ ap (λ (q : Bool). q && has es (wayEdge W H x d)) w
 
             edge-is : wayOf g x d .edge ≡ wayEdge W H x d
-            edge-is = ap (λ (y : Way). y .edge) (way-is x d)
+            edge-is = ap (λ (y : Way). y .edge) (way-is g shaped x d)
 
             there : T (goes g x m a d) → T (branch? es up (wayEdge W H x d))
             there t =
@@ -109,7 +96,7 @@ module _ (g : Shape) (shaped : Shaped g) where
               where
                 way : wayOf g x d ≡ record { tile = far (lo W H) (hi W H) x (wayEdge W H x d); edge = wayEdge W H x d }
                 way =
-                    way-is x d
+                    way-is g shaped x d
                     ∙ ap {B = Way} (λ (y : ℕ). record { tile = y; edge = wayEdge W H x d })
                     (sym (way-leads W H (shaped .w-least) (shaped .h-least) x d in-grid (subst T (sym w) tt) .2))
 

@@ -3,14 +3,15 @@
 use mathlib.Core.Bool.{Bool, true, false, _&&_}
 use mathlib.Core.Logic.{⊎-elim}
 use mathlib.Core.Path.{_≡_, refl, sym, ap, ap₂, _∙_}
-use Prim.Native.Nat.{ℕ, zero, suc, _+_, _-_, _*_, _/_, _≤_, _<_}
+use Prim.Native.Nat.{ℕ, zero, suc, _+_, _-_, _*_, _/_, _%_, _≤_, _<_}
 use native.Mathlib.Decide.{ℕ-discrete}
-use native.Mathlib.Nat.{div-eq-of-lt-le}
+use native.Mathlib.Nat.{div-eq-of-lt-le, div-add-mod, mod-lt, div-lt-iff-lt-mul, zero-mul}
 use native.Mathlib.Omega.{arith}
-use borrow.Author.Tests.{ltb-true, eq-eqb, ne-eqb}
+use borrow.Author.Tests.{ltb-true, lt-ltb, eq-eqb, ne-eqb}
 use lib.Dec.{eqb, ltb}
 use Rattle.layout.specs.Shapes.{Shaped, tile-below, wayOf}
 use Rattle.layout.specs.declared.Shape.{Shape}
+use Rattle.layout.specs.declared.Way.{Way}
 use Rattle.model.specs.Grid.{tile, eastCount, eastEdge, northEdge}
 use Rattle.model.specs.Read.{Triple, edgeInside, edgeAt}
 use Rattle.scan.specs.Inside.{false-true}
@@ -154,3 +155,51 @@ module _ (g : Shape) (shaped : Shaped g) where
               eq-eqb (8 + t .third) (8 + u .third) (ap (λ (m : ℕ). 8 + m) (one-way (sym e))),
             )
         go (no n) = apart n (ℕ-discrete (startOf g t) (startOf g u)) (ℕ-discrete (8 + t .third) (8 + u .third)) ∙ sym (ne-eqb (edgeOf g u) (edgeOf g t) n)
+
+-- the way out of the tile where the edge starts, as code finds it
+module _ (g : Shape) (shaped : Shaped g) (t : Triple) (inside : edgeInside (g .w) (g .h) t ≡ true) (way : t .third ≤ 1)
+    (here : ℕ) (here-is : here ≡ startOf g t) (out : Way) (out-is : out ≡ wayOf g here (t .third)) where
+  pub ends-there : out .tile ≡ hiOf (g .w) (g .h) (edgeOf g t)
+  ends-there = ap (λ (k : Way). k .tile) out-is ∙ ap (λ (x : ℕ). wayOf g x (t .third) .tile) here-is ∙ placed g shaped t inside way .leads
+
+  pub edge-is : out .edge ≡ edgeOf g t
+  edge-is = ap (λ (k : Way). k .edge) out-is ∙ ap (λ (x : ℕ). wayOf g x (t .third) .edge) here-is ∙ placed g shaped t inside way .number
+
+-- every edge of the grid has an entry
+pub record Named (g : Shape) (e : ℕ) : Type 0 where
+  pub entry : Triple
+  pub inside : edgeInside (g .w) (g .h) entry ≡ true
+  pub way : entry .third ≤ 1
+  pub is : edgeOf g entry ≡ e
+
+module _ (g : Shape) (shaped : Shaped g) (e : ℕ) (known : e < g .e) where
+  pub named : Named g e
+  named = ⊎-elim east north (lt-or-ge e (eastCount (g .w) (g .h)))
+    where
+      none : (v : ℕ) → v ≡ 0 → e < v * g .h → ⊥
+      none zero z h = omega (arith, zero-mul (g .h))
+      none (suc v) z h = omega arith
+
+      east : e < eastCount (g .w) (g .h) → Named g e
+      east h =
+          let some : 0 < g .w - 1 = ⊎-elim (λ k. k) (λ k. absurd (none (g .w - 1) (omega arith) h)) (lt-or-ge 0 (g .w - 1)) in
+          let x : e % (g .w - 1) < g .w - 1 = mod-lt e some in
+          let y : e / (g .w - 1) < g .h = div-lt-iff-lt-mul some .1 (omega arith) in
+          record {
+            entry = record { x = e % (g .w - 1); y = e / (g .w - 1); third = 0 };
+            inside = rw (lt-ltb (e % (g .w - 1) + 1) (g .w) (omega arith), lt-ltb (e / (g .w - 1)) (g .h) y);
+            way = omega arith;
+            is = omega (arith, div-add-mod e (g .w - 1));
+          }
+
+      north : eastCount (g .w) (g .h) ≤ e → Named g e
+      north h =
+          let u : ℕ = e - eastCount (g .w) (g .h) in
+          let x : u % g .w < g .w = mod-lt u (shaped .w-least) in
+          let y : u / g .w < g .h - 1 = div-lt-iff-lt-mul (shaped .w-least) .1 (omega (arith, shaped .e-is, known)) in
+          record {
+            entry = record { x = u % g .w; y = u / g .w; third = 1 };
+            inside = rw (lt-ltb (u % g .w) (g .w) x, lt-ltb (u / g .w + 1) (g .h) (omega arith));
+            way = omega arith;
+            is = omega (arith, div-add-mod u (g .w));
+          }

@@ -45,7 +45,7 @@ pub enum Command {
     /// Say a refusal in words, with its place in the order of faults and an example
     Explain {
         /// The number of the refusal; without it, all are listed
-        #[arg(value_parser = clap::value_parser!(u32).range(1..=crate::explain::RULES.len() as i64))]
+        #[arg(value_parser = clap::value_parser!(u32).range(1..=i64::from(crate::explain::LAST)))]
         number: Option<u32>,
     },
     /// Show where tracks are full and where the vias stand, as a table

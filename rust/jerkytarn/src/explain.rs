@@ -6,14 +6,14 @@ mod form;
 mod table;
 
 pub use find::need;
-pub use table::{rule, Example, Rule, RULES};
+pub use table::{rule, Example, Rule, LAST, RULES};
 
 use crate::job::line_at;
 use excerpt::excerpt;
 use find::Case;
 use layerplan::{Lengths, Refusal};
 use std::fmt::Write;
-use table::ORDER;
+use table::{ended, ENDED, ORDER};
 
 /// The most columns of a paragraph.
 const COLUMNS: usize = 88;
@@ -76,6 +76,16 @@ fn wrapped(words: &str, columns: usize) -> Vec<String> {
     lines
 }
 
+/// What there is to say of a number; nothing where there is no such number.
+pub fn number_in_words(number: u32) -> Option<String> {
+    rule(number).map(in_words).or_else(|| {
+        let ended = ended(number)?;
+        let mut out = format!("Refusal {number}: {}\n\n", ended.title);
+        put_labelled(&mut out, "meaning", ended.meaning);
+        Some(out)
+    })
+}
+
 /// The refusal with this number in words, its place in the order of faults, and an example.
 pub fn in_words(rule: &Rule) -> String {
     let mut out = format!("Refusal {}: {}\n\n", rule.number, rule.title);
@@ -105,8 +115,11 @@ fn put_example(out: &mut String, example: &Example) {
 /// All numbers, a line for each.
 pub fn overview() -> String {
     let mut out = String::from("A refused job gives `refused=number,line`. The numbers:\n\n");
-    for rule in &RULES {
-        let _ = writeln!(out, "  {:>2}  {}", rule.number, rule.title);
+    let rules = RULES.iter().map(|rule| (rule.number, rule.title));
+    let mut titles: Vec<(u32, &str)> = rules.chain(ENDED.iter().map(|ended| (ended.number, ended.title))).collect();
+    titles.sort_unstable();
+    for (number, title) in titles {
+        let _ = writeln!(out, "  {number:>2}  {title}");
     }
     out.push('\n');
     wrapped(ORDER, COLUMNS).iter().for_each(|line| {

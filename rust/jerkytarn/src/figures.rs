@@ -1,10 +1,12 @@
 //! What can be counted of a planned block: who uses which edge on which layer, where the vias stand, and, in
-//! `directives`, which layers the nets want. It is counted from the job and the library's answer list, and held to the
-//! figures that the library returned.
+//! `directives`, which layers the nets want, in `rings`, which edges were dropped. It is counted from the job and the
+//! library's answer list, and held to the figures that the library returned.
 
 mod directives;
+mod rings;
 
 pub use directives::{AtEdge, Directives, Wanted};
+pub use rings::{Cut, Rings, DROPPED};
 
 use crate::fault::Fault;
 use crate::job::{self, Grid, Job, Net, Way};
@@ -19,11 +21,11 @@ pub struct Block {
     pub totals: Totals,
     /// The nets with their lowest wanted layers and scores, in placing order.
     pub order: Vec<Entry>,
-    /// The layers of each net's edges, in the order of its `edges` line.
+    /// The layers of each net's edges, in the order of its `edges` line; `DROPPED` for one that is not kept.
     pub layers: Vec<Vec<u8>>,
     /// The nets on each edge of each layer: by layer from the bottom, then by edge.
     pub used: Vec<Vec<usize>>,
-    /// The nets on each edge of the flat plan.
+    /// The nets on each edge of the flat plan, without those that dropped it.
     pub demand: Vec<usize>,
     /// The vias of each net.
     pub net_vias: Vec<usize>,
@@ -31,6 +33,8 @@ pub struct Block {
     pub tile_vias: Vec<Vec<usize>>,
     /// What the `low` lines ask for; none where the job has no such line.
     pub directives: Option<Directives>,
+    /// What was dropped; none where no net has a ring.
+    pub rings: Option<Rings>,
 }
 
 /// A layer's edge: the layer from 1, and the edge's number.
@@ -96,22 +100,29 @@ fn count(job: Job, planned: Planned) -> Option<Block> {
         net_vias: Vec::with_capacity(job.nets.len()),
         tile_vias: vec![vec![0; job.grid.tiles()]; layers.saturating_sub(1)],
         directives: None,
+        rings: None,
         job,
     };
     let mut masks = Masks::new(block.job.grid);
     for (net, layers) in block.job.nets.iter().zip(&block.layers) {
-        for (edge, layer) in net.edges.iter().zip(layers) {
-            let layer = usize::from(*layer);
-            block.demand[*edge] += 1;
-            *block.used.get_mut(layer.checked_sub(1)?)?.get_mut(*edge)? += 1;
-            if !block.job.carries(layer, block.job.grid.named(*edge).1) {
+        for (edge, layer) in kept(net, layers) {
+            block.demand[edge] += 1;
+            *block.used.get_mut(layer - 1)?.get_mut(edge)? += 1;
+            if !block.job.carries(layer, block.job.grid.named(edge).1) {
                 return None;
             }
         }
-        block.net_vias.push(masks.count(net, layers, &mut block.tile_vias));
+        block.net_vias.push(masks.count(net, layers, &mut block.tile_vias)?);
     }
     block.directives = Directives::of(&block.job, &block.layers);
+    block.rings = Rings::of(&block.job, &block.layers);
     Some(block)
+}
+
+/// The edges of a net that are kept, with their layers.
+pub fn kept<'a>(net: &'a Net, layers: &'a [u8]) -> impl Iterator<Item = (usize, usize)> + 'a {
+    let all = net.edges.iter().zip(layers).filter(|(_, layer)| **layer != DROPPED);
+    all.map(|(edge, layer)| (*edge, usize::from(*layer)))
 }
 
 /// The answer list, cut into each net's own stretch.
@@ -145,15 +156,19 @@ impl Masks {
         self.masks[tile] |= 1 << layer;
     }
 
-    /// The vias of a net: at each of its tiles one for every level between its lowest and its highest layer there.
-    fn count(&mut self, net: &Net, layers: &[u8], tile_vias: &mut [Vec<usize>]) -> usize {
+    /// The vias of a net: at each of its tiles one for every level between its lowest and its highest layer there. Nothing
+    /// where it has not one tile more than kept edges: then these are no tree over its pins.
+    fn count(&mut self, net: &Net, layers: &[u8], tile_vias: &mut [Vec<usize>]) -> Option<usize> {
         for pin in &net.pins {
             self.add(self.grid.number(pin.tile), pin.layer);
         }
-        for (edge, layer) in net.edges.iter().zip(layers) {
-            for end in self.grid.ends(*edge) {
-                self.add(self.grid.number(end), usize::from(*layer));
+        for (edge, layer) in kept(net, layers) {
+            for end in self.grid.ends(edge) {
+                self.add(self.grid.number(end), layer);
             }
+        }
+        if self.touched.len() != kept(net, layers).count() + 1 {
+            return None;
         }
         let mut vias = 0;
         for tile in self.touched.drain(..) {
@@ -162,7 +177,7 @@ impl Masks {
             tile_vias[low - 1..high - 1].iter_mut().for_each(|level| level[tile] += 1);
             vias += high - low;
         }
-        vias
+        Some(vias)
     }
 }
 
@@ -288,6 +303,24 @@ pub fn timing_example() -> Block {
     of(timing_plan(), include_bytes!("../../../examples/timing.job")).unwrap()
 }
 
+/// What the library gives for the example with rings, by hand.
+#[cfg(test)]
+fn rings_plan(answer: &[u8]) -> Planned<'_> {
+    const ORDER: [Entry; 3] = [
+        Entry { net: 1, low: 1, score: 2500 },
+        Entry { net: 3, low: 1, score: 2000 },
+        Entry { net: 2, low: 1, score: 1333 },
+    ];
+    Planned { totals: Totals { vias: 2, overflow: 0, maximum: 0 }, ldof: None, order: &ORDER, answer }
+}
+
+/// The example with rings, planned by hand.
+#[cfg(test)]
+pub fn rings_example() -> Block {
+    let answer = [1, 1, 0, 0, 0, 0, 2, 2, 2, 0, 0, 0, 0];
+    of(rings_plan(&answer), include_bytes!("../../../examples/rings.job")).unwrap()
+}
+
 #[cfg(test)]
 mod tests {
     use super::*;
@@ -356,6 +389,32 @@ mod tests {
         let mut order = TIMING_ORDER;
         order[0].low = 1;
         assert!(of(Planned { order: &order, ..timing_plan() }, text).is_err());
+    }
+
+    #[test]
+    fn figures_are_those_of_the_kept_edges() {
+        let text = include_bytes!("../../../examples/rings.job");
+        let block = plan(&mut Planner::new(), text).unwrap().unwrap();
+        assert_eq!((&block.layers, &block.rings), (&rings_example().layers, &rings_example().rings));
+        assert_eq!(block.order, rings_example().order);
+        assert_eq!(block.demand, [2, 1, 0, 0, 0, 1, 1]);
+        assert_eq!(block.used, [[1, 0, 0, 0, 0, 1, 0], [1, 1, 0, 0, 0, 0, 1]]);
+        assert_eq!(block.net_vias, [0, 1, 1]);
+        assert_eq!(plan(&mut Planner::new(), EXAMPLE).unwrap().unwrap().rings, None);
+    }
+
+    #[test]
+    fn a_net_that_is_not_cut_to_a_tree_does_not_fit() {
+        let text = include_bytes!("../../../examples/rings.job");
+        let fits = |net_1: [u8; 6], net_2: [u8; 3], net_3: [u8; 4]| {
+            let answer = [&net_1[..], &net_2, &net_3].concat();
+            count(job::read(text).unwrap(), rings_plan(&answer)).is_some()
+        };
+        assert!(fits([1, 1, 0, 0, 0, 0], [2, 2, 2], [0; 4]));
+        assert!(!fits([1, 1, 1, 1, 0, 0], [2, 2, 2], [0; 4]));
+        assert!(!fits([1, 0, 0, 0, 0, 0], [2, 2, 2], [0; 4]));
+        assert!(!fits([1, 1, 0, 0, 0, 0], [2, 2, 2], [1; 4]));
+        assert!(!fits([0; 6], [2, 2, 2], [0; 4]));
     }
 
     #[test]

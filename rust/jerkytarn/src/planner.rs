@@ -20,7 +20,7 @@ pub struct Planned<'a> {
     /// The nets with their lowest wanted layers and scores, in placing order; beyond the job's nets, what stood there
     /// before.
     pub order: &'a [Entry],
-    /// The layers, nets in job order.
+    /// The layers, 0 for a dropped edge, nets in job order.
     pub answer: &'a [u8],
 }
 

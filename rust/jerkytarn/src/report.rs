@@ -5,7 +5,7 @@ mod table;
 pub use table::{grouped, put_block, table, Style};
 
 use crate::explain::need;
-use crate::figures::{Block, Limits, Overflow, Place, Wanted};
+use crate::figures::{kept, Block, Cut, Limits, Overflow, Place, Wanted};
 use crate::job::{Tile, Way};
 use layerplan::Refusal;
 use serde::Serialize;
@@ -27,8 +27,11 @@ pub struct Report {
     pub pins: usize,
     /// The different tiles of each net's pins, of all nets together.
     pub pin_tiles: usize,
-    /// Entries on all `edges` lines.
+    /// Entries on all `edges` lines, those of dropped edges included.
     pub entries: usize,
+    /// What was dropped of nets with rings; nothing stands where no net has one.
+    #[serde(skip_serializing_if = "Option::is_none")]
+    pub rings: Option<Rings>,
     pub flat_overflow: Totals,
     /// The most that one layer of an edge may overflow, by the edge's direction.
     #[serde(skip_serializing_if = "Option::is_none")]
@@ -90,6 +93,18 @@ pub struct Crowded {
     pub overflow: usize,
 }
 
+/// The edges that were dropped, because they close rings or then hang loose. They use no track.
+#[derive(Serialize, Clone, PartialEq, Eq, Debug)]
+pub struct Rings {
+    /// Nets that lost edges.
+    pub nets: usize,
+    /// The edges that they lost.
+    pub dropped: usize,
+    /// The edges of all nets that are kept.
+    pub kept: usize,
+    pub most_dropped: Vec<Cut>,
+}
+
 /// The layers that the nets' timing wants, and where they have too few tracks.
 #[derive(Serialize, Clone, PartialEq, Eq, Debug)]
 pub struct Directives {
@@ -135,6 +150,7 @@ pub struct Bucket {
 pub struct Net {
     pub net: usize,
     pub vias: usize,
+    /// The kept ones.
     pub edges: usize,
     pub pins: usize,
     /// In how many different tiles these are: what the score counts.
@@ -146,7 +162,7 @@ pub struct Net {
 
 impl Report {
     /// The report of a block, with at most `top` entries in its lists of the most crowded edges, of those with most
-    /// excess and of the largest nets.
+    /// excess, of the largest nets and of those that lost most edges.
     pub fn new(name: &str, block: &Block, top: usize) -> Report {
         let job = &block.job;
         Report {
@@ -161,6 +177,7 @@ impl Report {
             pins: job.nets.iter().map(|net| net.pins.len()).sum(),
             pin_tiles: job.nets.iter().map(|net| net.pin_tiles()).sum(),
             entries: job.entries(),
+            rings: rings(block, top),
             flat_overflow: totals(block.flat_overflow()),
             limits: block.limits(),
             layered_overflow: totals(block.layered_overflow()),
@@ -235,6 +252,13 @@ fn ends(block: &Block, edge: usize) -> [[usize; 2]; 2] {
     block.job.grid.ends(edge).map(|Tile { x, y }| [x, y])
 }
 
+fn rings(block: &Block, top: usize) -> Option<Rings> {
+    let rings = block.rings.as_ref()?;
+    let dropped = rings.dropped();
+    let kept = block.job.entries() - dropped;
+    Some(Rings { nets: rings.nets.len(), dropped, kept, most_dropped: rings.most_dropped(top) })
+}
+
 fn directives(block: &Block, top: usize) -> Option<Directives> {
     let directives = block.directives.as_ref()?;
     let row = |edge: usize| {
@@ -285,7 +309,7 @@ fn most_vias(block: &Block, top: usize) -> Vec<Net> {
     let row = |place: usize| Net {
         net: place + 1,
         vias: block.net_vias[place],
-        edges: block.job.nets[place].edges.len(),
+        edges: kept(&block.job.nets[place], &block.layers[place]).count(),
         pins: block.job.nets[place].pins.len(),
         pin_tiles: block.job.nets[place].pin_tiles(),
         score: block.order.get(turns[place].wrapping_sub(1)).map_or(0, |entry| entry.score),
@@ -357,6 +381,30 @@ mod tests {
         ] {
             assert!(told.contains(words), "no {words:?} in\n{told}");
         }
+    }
+
+    #[test]
+    fn rings_in_the_report() {
+        let report = Report::new("rings.job", &crate::figures::rings_example(), 1);
+        let value: serde_json::Value = serde_json::from_str(&report.json()).unwrap();
+        let expected = serde_json::json!({
+            "nets": 2,
+            "dropped": 8,
+            "kept": 5,
+            "most_dropped": [{ "net": 1, "entries": 6, "dropped": 4, "kept": 2 }],
+        });
+        assert_eq!((&value["rings"], &value["entries"]), (&expected, &13.into()));
+        assert_eq!(value["lengths"]["answer"], 13);
+        assert_eq!(value["most_vias"][0]["edges"], 3);
+        let told = table(&report, Style { unicode: false });
+        for words in [
+            "  edge entries      13\n  rings             2 nets cut, 8 edges dropped, 5 kept\n",
+            "\n  nets that lost most edges to rings\n      net  entries  dropped     kept\n        1        6        4        2\n",
+        ] {
+            assert!(told.contains(words), "no {words:?} in\n{told}");
+        }
+        let without = Report::new("timing.job", &crate::figures::timing_example(), 1);
+        assert!(!without.json().contains("rings") && !table(&without, Style { unicode: false }).contains("rings"));
     }
 
     #[test]

@@ -125,8 +125,7 @@ fn explain(number: Option<u32>) -> Result<Verdict, Fault> {
     let text = match number {
         None => explain::overview(),
         Some(number) => {
-            let rule = explain::rule(number).ok_or_else(|| Fault::new(format!("there is no refusal {number}")))?;
-            explain::in_words(rule)
+            explain::number_in_words(number).ok_or_else(|| Fault::new(format!("there is no refusal {number}")))?
         }
     };
     write_standard(text.as_bytes()).map(|()| Verdict::Accepted)

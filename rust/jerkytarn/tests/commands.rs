@@ -4,14 +4,13 @@ mod common;
 use common::*;
 use std::fs;
 
-const REFUSED: [(u32, u32, &str, &[&str]); 12] = [
+const REFUSED: [(u32, u32, &str, &[&str]); 11] = [
     // number, line, what is lent less of, words of the explanation
     (2, 13, "", &["2.job:13: refused 2", "pins=0,0,1; 2,0,1", "pin 2: x: ` 2` has spaces around the number", "^^^^^^"]),
     (3, 16, "", &["3.job:16: refused 3", "in pin 2 the layer is 3", "a layer from 1 to 2"]),
     (4, 15, "", &["4.job:15: refused 4", "net number 3", "this is the 2nd net"]),
     (5, 13, "", &["5.job:13: refused 5", "pin 0,0,1 as entry 1 and again as entry 3"]),
     (6, 14, "", &["6.job:14: refused 6", "edge 0,0,e as entry 1 and again as entry 3"]),
-    (7, 14, "", &["7.job:14: refused 7", "edge 0,1,e closes a ring with"]),
     (8, 14, "", &["8.job:14: refused 8", "pin 2 of line 13, 2,0,1, is not reached"]),
     (9, 3, "work=100", &["whole.job:3: refused 9", "100 working numbers lent", "108 or more"]),
     (10, 11, "order=1", &["whole.job:11: refused 10", "1 order entries lent", "2 or more"]),
@@ -99,15 +98,15 @@ fn check_tells_the_figures() {
     ] {
         assert!(told.contains(line), "no {line:?} in\n{told}");
     }
-    let output = run(["check", &example_of(7)]);
-    assert_eq!((status(&output), text(&output.stdout)), (1, "refused=7,14\n".to_string()));
+    let output = run(["check", &example_of(8)]);
+    assert_eq!((status(&output), text(&output.stdout)), (1, "refused=8,14\n".to_string()));
     let output = run(["check", EXAMPLE, "--lend", "print=389"]);
     assert_eq!(text(&output.stdout), "refused=11,17\n");
 }
 
 #[test]
 fn explain_says_each_number() {
-    for number in 1..=13 {
+    for number in (1..=13).filter(|number| *number != 7) {
         let output = run(["explain", &number.to_string()]);
         assert_eq!(status(&output), 0);
         let told = text(&output.stdout);
@@ -308,6 +307,46 @@ fn wanted_layers_are_told() {
         let told = text(&run(arguments).stdout);
         assert!(!told.contains("directive") && !told.contains("ldof"), "{told}");
     }
+}
+
+#[test]
+fn rings_are_told_by_every_command() {
+    assert_eq!(text(&run(["plan", RINGS]).stdout), fs::read_to_string(RINGS_PLAN).unwrap());
+    let told = text(&run(["check", RINGS]).stdout);
+    assert!(
+        told.contains("  edge entries      13\n  rings             2 nets cut, 8 edges dropped, 5 kept\n"),
+        "{told}"
+    );
+    let rows = |top: &str| {
+        let table = text(&run(["report", RINGS, "--top", top]).stdout);
+        let list = table.split("nets that lost most edges to rings\n").nth(1).unwrap();
+        list.lines().skip(1).take_while(|line| !line.is_empty()).count()
+    };
+    assert_eq!([rows("1"), rows("9")], [1, 2]);
+    let json: serde_json::Value = serde_json::from_slice(&run(["report", "--json", RINGS]).stdout).unwrap();
+    assert_eq!(
+        (&json["rings"]["nets"], &json["rings"]["dropped"], &json["rings"]["kept"]),
+        (&2.into(), &8.into(), &5.into())
+    );
+    assert_eq!(
+        json["rings"]["most_dropped"][1],
+        serde_json::json!({ "net": 3, "entries": 4, "dropped": 4, "kept": 0 })
+    );
+    let folder = Folder::new();
+    let picture = folder.path("a.svg");
+    assert_eq!(status(&run(["draw", RINGS, "-o", picture.to_str().unwrap()])), 0);
+    let drawn = fs::read_to_string(picture).unwrap();
+    assert!(
+        drawn.contains("; 8 edges dropped<")
+            && drawn.contains(">an edge that some net dropped, since it closes a ring")
+    );
+    // nothing of it where no net has a ring
+    for arguments in [&["check", EXAMPLE][..], &["report", EXAMPLE], &["report", "--json", EXAMPLE]] {
+        let told = text(&run(arguments).stdout);
+        assert!(!told.contains("rings") && !told.contains("dropped"), "{told}");
+    }
+    let told = text(&run(["explain", "7"]).stdout);
+    assert!(told.starts_with("Refusal 7: rings: it no longer occurs\n"), "{told}");
 }
 
 #[test]

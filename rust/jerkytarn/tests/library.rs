@@ -147,8 +147,7 @@ fn every_refusal_of_a_damaged_text_says_what_was_found() {
         }
         Damage::Turn => "net number",
         Damage::PinTwice | Damage::EdgeTwice => "again as entry",
-        Damage::Ring => "closes a ring with",
-        Damage::Off => "is not reached from the first pin's tile",
+        Damage::Ring | Damage::Off => "is not reached from the first pin's tile",
         Damage::Closed => "entry",
         Damage::NoLayer => "no layer is",
         Damage::Zero => "has a zero before other digits|entry|`0`|number|letter",

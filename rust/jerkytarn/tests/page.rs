@@ -83,11 +83,19 @@ impl Planned {
             .collect()
     }
 
+    /// How many edges of a net are kept, and how many dropped.
+    fn kept_and_dropped(&self, net: usize) -> (usize, usize) {
+        let before: usize = self.job.nets[..net - 1].iter().map(|net| net.edges.len()).sum();
+        let layers = &self.answer[before..before + self.job.nets[net - 1].edges.len()];
+        let dropped = layers.iter().filter(|layer| **layer == 0).count();
+        (layers.len() - dropped, dropped)
+    }
+
     /// The edge of a layer that most nets use.
     fn busiest(&self) -> Option<(u8, usize)> {
         let edges = self.job.nets.iter().flat_map(|net| &net.edges);
         let mut counts = std::collections::HashMap::new();
-        for (edge, layer) in edges.zip(&self.answer) {
+        for (edge, layer) in edges.zip(&self.answer).filter(|(_, layer)| **layer > 0) {
             *counts.entry((*layer, *edge)).or_insert(0usize) += 1;
         }
         counts.into_iter().max_by_key(|(place, count)| (*count, *place)).map(|(place, _)| place)
@@ -108,7 +116,11 @@ fn expect_counts(folder: &Folder, page: &Path, planned: &Planned, layer: u8, edg
     assert_eq!(fact(&shown, "overflow"), grouped((on.len() as u64).saturating_sub(capacity)));
     assert_eq!(nets(&shown), on);
     assert_eq!(fact(&shown, "net vias"), planned.vias[net - 1]);
-    assert_eq!(fact(&shown, "edges"), planned.job.nets[net - 1].edges.len().to_string());
+    let (kept, dropped) = planned.kept_and_dropped(net);
+    assert_eq!(fact(&shown, "edges"), kept.to_string());
+    if planned.answer[..planned.job.entries()].contains(&0) {
+        assert_eq!(fact(&shown, "dropped edges"), dropped.to_string());
+    }
 }
 
 fn drawn_page(folder: &Folder, job: &[u8]) -> std::path::PathBuf {
@@ -295,6 +307,42 @@ fn a_page_without_directions_says_nothing_of_them() {
     let steps = "expect('legend', byId('runs').hidden, true);
         expect('titles', [maps[0].figure, maps[1].figure].map((map) => map.querySelector('strong').textContent), ['Layer 1', 'Layer 2']);
         expect('figures', byId('figures').textContent.includes('limit of a layer'), false);";
+    assert_eq!(interaction(&fs::read(EXAMPLE).unwrap(), steps), "as expected");
+}
+
+/// The page of the example with rings: net 1 drops edges 2, 4, 1 and 6 of six, and net 3 all of its four.
+const DROPPED: &str = r#"
+  const facts = (part) => Object.fromEntries([...document.querySelectorAll(`${part} dd`)].map((fact) => [fact.dataset.fact, fact.textContent]));
+  expect('shown', [...document.querySelectorAll('.rings')].map((each) => each.hidden), [false, false]);
+  expect('figures', byId('figures').textContent.endsWith(' · dropped edges 8'), true);
+  expect('rings', facts('#cut'), { 'nets cut': '2', 'edges dropped': '8' });
+  const cut = [...document.querySelectorAll('#cut-nets button')];
+  expect('nets with rings', cut.map((each) => each.textContent), ['1', '3']);
+  cut[1].click();
+  expect('net 3', [state.net, facts('#net').edges, facts('#net')['dropped edges'], facts('#net')['on layers']], [3, '0', '4', 'none']);
+  chooseNet(2);
+  expect('net 2', [facts('#net').edges, facts('#net')['dropped edges']], ['3', '0']);
+  choose({ at: { layer: 2, x: 1, y: 0, way: 'e' }, held: true });
+  expect('an edge', [facts('#place').used, facts('#place')['dropped by nets']], ['1', '1, 3']);
+  choose({ at: { layer: 1, x: 0, y: 0, way: 'n' } });
+  expect('no track is used', [facts('#place').used, facts('#place').overflow, facts('#place')['dropped by nets']], ['0', '0', '1']);
+  expect('label of a row', byId('row-0').getAttribute('aria-label'), 'net 1, 0 vias, 2 edges, 4 dropped');
+  expect('colour', palette.dropped, '#8a6d00');
+  choose({ at: null, held: false, net: 0 });
+  const pixel = (map, x, y) => {
+    const [a, b] = map.middle(x, y).map((place) => Math.round(place * map.scale));
+    return [...map.canvas.getContext('2d').getImageData(a - 3, b - 3, 7, 7).data].some((value, place, all) => place % 4 === 0 && value === 0x8a && all[place + 1] === 0x6d && all[place + 2] === 0);
+  };
+  expect('on the map of vias alone', maps.map((map) => pixel(map, 0.5, 1)), [false, false, true]);
+  chooseNet(1);
+  expect('on every map, of the chosen net', maps.map((map) => pixel(map, 0.5, 1)), [true, true, true]);
+"#;
+
+#[test]
+fn the_page_shows_dropped_edges() {
+    assert_eq!(interaction(&fs::read(RINGS).unwrap(), DROPPED), "as expected");
+    let steps = "expect('hidden', [...document.querySelectorAll('.rings')].map((each) => each.hidden), [true, true]);
+        expect('figures', byId('figures').textContent.includes('dropped'), false);";
     assert_eq!(interaction(&fs::read(EXAMPLE).unwrap(), steps), "as expected");
 }
 

@@ -1,9 +1,10 @@
 //! A verified layer assignment for flat wiring plans.
 //!
-//! In: a flat wiring plan as a text, every net a tree over a grid of tiles, with track counts for each layer, from 0 to
-//! 65,535, and, if the layers have one, the direction in which each runs; a net may name the lowest layer that its timing
-//! wants. Out: the layer of every edge of every net, with as few vias as each net can have at its turn and exactly the
-//! overflow that cannot be avoided; or one numbered [`Refusal`] with its line.
+//! In: a flat wiring plan as a text, every net a set of edges that join its pins over a grid of tiles, with track counts
+//! for each layer, from 0 to 65,535, and, if the layers have one, the direction in which each runs; a net may name the
+//! lowest layer that its timing wants. Rings are cut: what closes one is dropped, and what then hangs loose. Out: the layer
+//! of every kept edge of every net, with as few vias as each net can have at its turn and exactly the overflow that cannot
+//! be avoided; or one numbered [`Refusal`] with its line.
 //!
 //! The work is done by a static library whose functions are proved to do what the definitions say, for every text and
 //! all lengths of the lent slices. This crate only lends it safe slices. There is no heap behind it: the caller lends
@@ -38,6 +39,9 @@ pub const TEXT_MOST: usize = 1_048_576;
 /// The most nets of a job.
 pub const NETS_MOST: usize = 4_096;
 
+/// The layer of an edge that is dropped, because it closes a ring or hangs loose once rings are cut.
+pub const DROPPED: u8 = 0;
+
 /// The figures of a plan.
 #[derive(Clone, Copy, PartialEq, Eq, Debug)]
 pub struct Totals {
@@ -59,7 +63,7 @@ pub struct Printed {
 /// Why a job is not accepted. [`Display`](fmt::Display) says it in words.
 #[derive(Clone, Copy, PartialEq, Eq, Debug)]
 pub struct Refusal {
-    /// 1 to 13.
+    /// 1 to 13, but 7, which no longer occurs: rings are cut, and not refused.
     pub number: u32,
     /// The line of the text, counted from 1; 0 for refusal 1. A missing line has the number that it would have had.
     pub line: u32,
@@ -74,13 +78,13 @@ impl fmt::Display for Refusal {
             4 => "net number out of turn",
             5 => "same tile and layer twice on `pins`",
             6 => "same edge twice on `edges`",
-            7 => "the net's edges contain a ring",
             8 => "a pin or edge not reached from the first pin's tile along the edges",
             9 => "fewer working numbers than needed",
             10 => "fewer order entries than nets",
             11 => "answer list or print buffer too short",
             12 => "a nonzero capacity on a layer that runs the other way",
-            _ => "an edge whose direction has no layer",
+            13 => "an edge whose direction has no layer",
+            _ => "no refusal has this number",
         };
         write!(out, "refused={},{}: {why}", self.number, self.line)
     }
@@ -103,7 +107,7 @@ pub struct Lengths {
 
 impl Lengths {
     /// What a job needs: `width` and `height` from 1 to 64, `layers` from 2 to 8, `nets` up to [`NETS_MOST`], and
-    /// `entries` on all its `edges` lines together.
+    /// `entries` on all its `edges` lines together, those of dropped edges included.
     ///
     /// # Panics
     ///
@@ -140,7 +144,11 @@ fn told(r: sys::LayerplanResult) -> Result<Totals, Refusal> {
 ///
 /// - `work`: working numbers. What they held is of no account; after every call, refused or not, all are 0.
 /// - `order`: the order list, the nets with their lowest wanted layers and their scores, in placing order.
-/// - `answer`: the layers, nets in job order, each net's layers in the order of its `edges` line.
+/// - `answer`: the layers, [`DROPPED`] for a dropped edge; nets in job order, each net's layers in the order of its `edges`
+///   line.
+///
+/// Going along an `edges` line, an edge that closes a ring with kept earlier ones is dropped. In a net that lost an edge so,
+/// a tile with one kept edge and no pin then loses that edge, until none is left to lose. Every pin stays joined.
 ///
 /// What lies beyond the needed part of `order` and `answer` stays as it was. A refused job leaves both as they were.
 pub fn plan(text: &[u8], work: &mut [u32], order: &mut [Entry], answer: &mut [u8]) -> Result<Totals, Refusal> {

@@ -1,6 +1,6 @@
 //! Both calls on the example job and on refused ones.
 
-use layerplan::{plan, print, Entry, Lengths, Printed, Refusal, Totals, NETS_MOST, TEXT_MOST};
+use layerplan::{plan, print, Entry, Lengths, Printed, Refusal, Totals, DROPPED, NETS_MOST, TEXT_MOST};
 
 const JOB: &[u8] = include_bytes!("../../../examples/three-tiles.job");
 const PLAN: &[u8] = include_bytes!("../../../examples/three-tiles.plan");
@@ -137,6 +137,33 @@ fn refusals() {
     assert_eq!(words(11), "refused=11,3: answer list or print buffer too short");
     assert_eq!(words(12), "refused=12,3: a nonzero capacity on a layer that runs the other way");
     assert_eq!(words(13), "refused=13,3: an edge whose direction has no layer");
+    assert_eq!(words(7), "refused=7,3: no refusal has this number");
+}
+
+#[test]
+fn rings_are_cut() {
+    let job = include_bytes!("../../../examples/rings.job");
+    let plan = include_bytes!("../../../examples/rings.plan");
+    // A counts the entries, dropped or not
+    let mut lent = Lent::new(Lengths::needed(3, 2, 2, 3, 13));
+    let totals = Totals { vias: 2, overflow: 0, maximum: 0 };
+    assert_eq!(lent.print(job), Ok(Printed { totals, length: plan.len() }));
+    assert_eq!(lent.out[..plan.len()], *plan);
+    let [net_1, net_2, net_3] = [&[1, 1, 0, 0, 0, 0][..], &[2, 2, 2], &[DROPPED; 4]];
+    assert_eq!(lent.answer, [net_1, net_2, net_3].concat());
+    let mut short = Lent::new(Lengths { answer: 12, ..Lengths::needed(3, 2, 2, 3, 13) });
+    assert_eq!(short.print(job), Err(Refusal { number: 11, line: 20 }));
+    assert!(short.untouched());
+
+    // 6 where the second would close a ring, and 8 beside one
+    let with = |from: &str, to: &str| {
+        let text = std::str::from_utf8(job).unwrap().replacen(from, to, 1);
+        let mut lent = Lent::new(Lengths::enough(text.len()));
+        let refusal = lent.plan(text.as_bytes()).unwrap_err();
+        (refusal.number, refusal.line)
+    };
+    assert_eq!(with(";0,0,n;", ";0,0,n;0,0,n;"), (6, 14));
+    assert_eq!(with("2,0,1;2,0,2", "2,0,1;0,0,2"), (8, 20));
 }
 
 /// The example with these lines `low` of its two nets: its order list and its printed text.

@@ -140,6 +140,38 @@ mod tests {
         assert!(walk::walks(text, &job, &other, 5, second::plan::walk).is_err());
     }
 
+    /// The text of a job of so many layers on a square grid, one track on each layer of each edge, with one net of these pins
+    /// and of all edges of the grid.
+    fn all_edges(side: usize, pins: &str) -> Vec<u8> {
+        let tracks = vec!["1"; side * (side - 1)].join(",");
+        let layer = format!("east={tracks}\nnorth={tracks}\n");
+        let east = (0..side).flat_map(|y| (1..side).map(move |x| format!("{},{y},e", x - 1)));
+        let north = (1..side).flat_map(|y| (0..side).map(move |x| format!("{x},{},n", y - 1)));
+        let edges = east.chain(north).collect::<Vec<_>>().join(";");
+        let head = format!("width={side}\nheight={side}\nlayers=2\nalpha=1\nbeta=1\ngamma=1\n");
+        format!("{head}{layer}{layer}nets=1\nnet=1\npins={pins}\nedges={edges}\n").into_bytes()
+    }
+
+    #[test]
+    fn rings_and_their_walks() {
+        let example = include_bytes!("../../../examples/rings.job").to_vec();
+        let corners = all_edges(64, "0,0,1;63,63,2;63,0,1;5,60,2");
+        // the walk of a net that lost all its edges has one tile
+        for (text, walks) in
+            [(example, 3), (all_edges(8, "3,3,1;3,3,2"), 1), (all_edges(64, "63,63,1"), 1), (corners, 1)]
+        {
+            let ample = Lengths { work: 276_224, order: 9, answer: 9000, print: Some(20_000) };
+            let expected = answer(&text, ample);
+            let job = read(&text, ample).unwrap();
+            for lent in [ample, job.need(), Lengths { answer: job.entries() - 1, ..ample }] {
+                let expected = answer(&text, lent);
+                held(&Library, &text, lent, &expected, 1).unwrap();
+                held(&Wrapped, &text, lent, &expected, 2).unwrap();
+            }
+            assert_eq!(walk::walks(&text, &job, &expected.unwrap(), 5, second::plan::walk), Ok(walks));
+        }
+    }
+
     /// The library with one fault put in after each call.
     struct Faulty(fn(&mut [u32], &mut [Entry], &mut Returned));
 

@@ -1,9 +1,10 @@
-//! The walk of each net. A wrong walk does not show in a plan (see `second::brute`), so it is looked for where it
+//! The walk of each net, over its kept edges. A wrong walk does not show in a plan (see `second::brute`), so it is looked for where it
 //! stands: in the working numbers, at the moment when the net's first layer is written into the answer list. The call
 //! is watched from outside (`watch.c`).
 
 use layerplan::sys::{Entry, LayerplanResult};
 use second::calls::Buffers;
+use second::cut::cut;
 use second::job::{Grid, Job, Net};
 use second::plan::{Plan, Step};
 use std::ffi::{c_int, c_void};
@@ -64,7 +65,7 @@ struct Watch {
     areas: [usize; 4],
     /// By place in the answer list: the net whose layer stands there, from 0.
     owner: Vec<usize>,
-    /// By net: how many tiles it has, and its walk once it was seen.
+    /// By net: how many tiles it has after the cut, and its walk once it was seen.
     tiles: Vec<usize>,
     seen: Vec<Option<Walked>>,
     /// The nets in the order of their first layers.
@@ -89,8 +90,9 @@ extern "C" fn tell(data: *mut c_void, place: usize) {
     }
 }
 
-/// Plans an accepted job once more, with exactly the needed lengths, and compares the walk of each net that has edges
-/// with what `walk` gives, and the nets' turns. How many walks were compared.
+/// Plans an accepted job once more, with exactly the needed lengths, and compares the walk of each net that has entries on
+/// its `edges` line, dropped or not, with what `walk` gives over the kept ones, and the nets' turns. How many walks were
+/// compared.
 pub fn walks(
     text: &[u8],
     job: &Job,
@@ -100,13 +102,14 @@ pub fn walks(
 ) -> Result<usize, String> {
     let Buffers { mut work, order, mut answer, .. } = Buffers::filled(job.need(), seed);
     let mut order = vec![Entry::default(); order.len()];
-    let counts = || job.nets.iter().map(|net| net.edges.len());
+    let counts = |job: &Job| job.nets.iter().map(|net| net.edges.len()).collect::<Vec<_>>();
+    let cut = cut(job);
     let work_pointer = work.as_mut_ptr();
     let mut watch = Watch {
         work: work_pointer,
         areas: areas(job),
-        owner: counts().enumerate().flat_map(|(net, count)| vec![net; count]).collect(),
-        tiles: counts().map(|count| count + 1).collect(),
+        owner: counts(job).into_iter().enumerate().flat_map(|(net, count)| vec![net; count]).collect(),
+        tiles: counts(&cut).into_iter().map(|count| count + 1).collect(),
         seen: vec![None; job.nets.len()],
         turns: Vec::new(),
         outside: false,
@@ -135,8 +138,9 @@ pub fn walks(
         return Err("the watched call went another way".to_string());
     }
     let mut compared = 0;
-    for (place, net) in job.nets.iter().enumerate() {
-        let wanted = if net.edges.is_empty() { None } else { Some(expected(job.grid, net, &walk(job.grid, net))) };
+    for (place, net) in cut.nets.iter().enumerate() {
+        let entries = job.nets[place].edges.len();
+        let wanted = if entries == 0 { None } else { Some(expected(job.grid, net, &walk(job.grid, net))) };
         if watch.seen[place] != wanted {
             let seen = &watch.seen[place];
             return Err(format!("walk of net {}: {seen:?} where {wanted:?} was expected", place + 1));

@@ -4,14 +4,15 @@
 //! and the length of a text, and then that text. Its answer is one line of JSON. Of a refused job it has `number` and
 //! `line`. Of an accepted one it has
 //! - `order`: the order list, each entry as a list of its numbers: net, lowest wanted layer, score;
-//! - `plan`: each net's layers in the order of its `edges` line, nets in job order;
+//! - `plan`: each net's layers in the order of its `edges` line, 0 for a dropped edge, nets in job order;
 //! - `vias`, `total`, `maximum`: what a call returns;
 //! - `text`: the print, which Plan does not write;
-//! - `walks`: each net's edges in walk order, by their numbers;
+//! - `walks`: each net's kept edges in walk order, by their numbers;
 //! - `brute`: whether the plan was held to demand 3 over all layerings of the job.
 //!
 //! A plan that does not pass the checks of this crate is not told: the run ends.
 
+use crate::cut::cut;
 use crate::job::{read, Job, Lengths, Refusal};
 use crate::plan::{plan, print, walk, Plan};
 use crate::run::checked;
@@ -58,7 +59,8 @@ fn accepted(job: &Job) -> Result<String, String> {
     let brute = checked(job, &plan)?.is_some();
     let entries = plan.order.iter().map(|entry| [entry.net.into(), entry.low.into(), entry.score]);
     let order: Vec<[u64; 3]> = entries.collect();
-    let steps = job.nets.iter().map(|net| walk(job.grid, net));
+    let cut = cut(job);
+    let steps = cut.nets.iter().map(|net| walk(job.grid, net));
     let walks: Vec<Vec<usize>> = steps.map(|steps| steps.iter().filter_map(|step| step.edge).collect()).collect();
     let text = print(&plan);
     let Plan { layers, total_vias, total_overflow, max_overflow, .. } = &plan;

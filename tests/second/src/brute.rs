@@ -1,6 +1,7 @@
 //! Demand 3 and the tie rule in their own words, for tiny jobs: all layerings of all nets are looked at one by one.
 //! Nothing here uses the planner; what it takes is the job, the order list, the answer list and the returned numbers.
-//! For the layer directives, all ways to hand out the tracks of an edge are looked at one by one.
+//! For the layer directives, all ways to hand out the tracks of an edge are looked at one by one. For the cut, all orders in
+//! which loose edges are lost.
 //!
 //! Of all legal choices with the fewest vias, the first in walk order is in fact the lowest on each single edge: take of
 //! two such choices the lower layer on each edge, and in another choice the higher one. Both are legal, and as highest
@@ -8,6 +9,7 @@
 //! follows that any order of the edges gives the same plan, and that a wrong walk does not show in a plan.
 
 use crate::calls::Returned;
+use crate::cut::of_kept;
 use crate::job::{Direction, Job, Net};
 use crate::plan::Entry;
 use std::collections::BTreeSet;
@@ -22,7 +24,104 @@ fn allowed(job: &Job, edge: usize) -> Vec<u8> {
     layers
 }
 
-/// The number of layerings of a job, if it is at most `most`.
+fn claim(holds: bool, what: &str) -> Result<(), String> {
+    if holds {
+        Ok(())
+    } else {
+        Err(what.to_string())
+    }
+}
+
+/// So many sets of kept edges are looked at in one net, at most.
+const MOST_SETS: usize = 5_000;
+
+/// Whether a way leads from one tile to another along these edges, which have no ring, and not back along the last.
+fn leads(job: &Job, edges: &[usize], from: usize, to: usize, last: Option<usize>) -> bool {
+    let on = |edge: &&usize| Some(**edge) != last && job.grid.ends(**edge).contains(&from);
+    let far = |edge: usize| job.grid.ends(edge).into_iter().find(|tile| *tile != from).unwrap();
+    from == to || edges.iter().filter(on).any(|edge| leads(job, edges, far(*edge), to, Some(*edge)))
+}
+
+/// The edges of the net without those that close a ring with kept earlier ones.
+fn opened(job: &Job, net: &Net) -> Vec<usize> {
+    let mut opened = Vec::new();
+    for edge in &net.edges {
+        let [a, b] = job.grid.ends(*edge);
+        if !leads(job, &opened, a, b, None) {
+            opened.push(*edge);
+        }
+    }
+    opened
+}
+
+/// All that may be left of these edges, once no tile with one edge and no pin is left: by every order in which such tiles
+/// lose their edges. Where there are too many sets on the way, just one order is gone along.
+fn leftovers(job: &Job, net: &Net, edges: Vec<usize>) -> BTreeSet<Vec<usize>> {
+    let (mut seen, mut open, mut left) = (BTreeSet::new(), vec![edges], BTreeSet::new());
+    while let Some(edges) = open.pop() {
+        let edges_at = |tile: usize| edges.iter().filter(|edge| job.grid.ends(**edge).contains(&tile)).count();
+        let loose = |tile: usize| edges_at(tile) == 1 && net.pins.iter().all(|pin| pin.tile != tile);
+        let places = (0..edges.len()).filter(|place| job.grid.ends(edges[*place]).into_iter().any(loose));
+        let without = |place: usize| [&edges[..place], &edges[place + 1..]].concat();
+        let mut next: Vec<Vec<usize>> = places.map(without).collect();
+        if next.is_empty() {
+            left.insert(edges);
+            continue;
+        }
+        next.truncate(if seen.len() < MOST_SETS { next.len() } else { 1 });
+        open.extend(next.into_iter().filter(|edges| seen.insert(edges.clone())));
+    }
+    left
+}
+
+/// The net's kept edges: no ring is left, and every pin stays joined to every other; whatever the order in which loose edges
+/// are lost.
+fn kept(job: &Job, net: &Net) -> Result<Vec<usize>, String> {
+    let opened = opened(job, net);
+    if opened.len() == net.edges.len() {
+        return Ok(opened);
+    }
+    let mut leftovers = leftovers(job, net, opened);
+    claim(leftovers.len() == 1, "the order in which loose edges are lost is of no account")?;
+    let kept = leftovers.pop_first().unwrap();
+    let joined = net.pins.iter().all(|pin| leads(job, &kept, net.pins[0].tile, pin.tile, None));
+    claim(joined, "every pin stays joined")?;
+    let tiles: BTreeSet<usize> = kept.iter().flat_map(|edge| job.grid.ends(*edge)).collect();
+    claim(kept.is_empty() || tiles.len() == kept.len() + 1, "no ring is left, and the net stays in one part")?;
+    Ok(kept)
+}
+
+/// d(e) and o(e) of every edge.
+fn flat(job: &Job) -> (Vec<u64>, Vec<u64>) {
+    let users = |edge: &usize| job.nets.iter().filter(|net| net.edges.contains(edge)).count() as u64;
+    let tracks = |edge: &usize| job.capacity.iter().map(|layer| layer[*edge]).sum::<u64>();
+    let edges = 0..job.grid.edges();
+    (edges.clone().map(|e| users(&e)).collect(), edges.map(|e| users(&e).saturating_sub(tracks(&e))).collect())
+}
+
+/// The cut job, and the kept part of its answer list: the other entries have layer 0. No edge has more nets than before, and
+/// neither TO nor a maximum of the flat plan rises.
+fn cut(job: &Job, answer: &[u8]) -> Result<(Job, Vec<u8>), String> {
+    claim(answer.len() == job.entries(), "the answer list has one byte for each entry")?;
+    let (mut cut, mut layers, mut answer) = (job.clone(), Vec::new(), answer);
+    for net in &mut cut.nets {
+        let (of_net, rest) = answer.split_at(net.edges.len());
+        let kept_edges = kept(job, net)?;
+        let kept: Vec<bool> = net.edges.iter().map(|edge| kept_edges.contains(edge)).collect();
+        let dropped = of_net.iter().zip(&kept).all(|(layer, kept)| *kept || *layer == 0);
+        claim(dropped, "a dropped edge has layer 0")?;
+        layers.extend(of_kept(of_net, &kept));
+        (net.edges, answer) = (kept_edges, rest);
+    }
+    let (before, after) = (flat(job), flat(&cut));
+    claim(after.0.iter().zip(&before.0).all(|(after, before)| after <= before), "no demand rises")?;
+    claim(after.1.iter().sum::<u64>() <= before.1.iter().sum(), "TO does not rise")?;
+    let (most, most_before) = (maxima(job, &after.1, 1), maxima(job, &before.1, 1));
+    claim(most.iter().zip(&most_before).all(|(after, before)| after <= before), "MO does not rise")?;
+    Ok((cut, layers))
+}
+
+/// The number of layerings of a job without rings, if it is at most `most`.
 pub fn layerings(job: &Job, most: u64) -> Option<u64> {
     let edges = job.nets.iter().flat_map(|net| &net.edges);
     let count = edges.map(|edge| allowed(job, *edge).len() as u64).try_fold(1, u64::checked_mul)?;
@@ -129,14 +228,14 @@ pub fn walk_order(job: &Job, net: &Net) -> Vec<usize> {
     found.into_iter().map(|(_, place)| place).collect()
 }
 
-/// Checks the plan of an accepted job against demand 3, and against the tie rule. Returns how many layerings there were.
+/// Checks the cut, and the plan of an accepted job against demand 3, and against the tie rule. Returns how many layerings
+/// there were.
 pub fn check(job: &Job, order: &[Entry], answer: &[u8], returned: &Returned) -> Result<u64, String> {
-    let claim = |holds: bool, what: &str| if holds { Ok(()) } else { Err(what.to_string()) };
+    let (job, answer) = &cut(job, answer)?;
     let nets = job.nets.len();
     let all_edges = || job.nets.iter().flat_map(|net| &net.edges);
 
     // the plan is a layering: one layer that the edge may use for each edge of each net
-    claim(answer.len() == job.entries(), "the answer list has one byte for each entry")?;
     let is_layering = all_edges().zip(answer).all(|(edge, layer)| allowed(job, *edge).contains(layer));
     claim(is_layering, "the answer list holds layers that the edges may use")?;
     let start = |net: usize| job.nets[..net].iter().map(|net| net.edges.len()).sum::<usize>();
@@ -283,7 +382,7 @@ impl HandOut<'_> {
     }
 }
 
-/// Checks the layer directives of a job: on each edge the excess is the fewest nets with `low` above 1 that go without a
+/// Checks the layer directives of a job without rings: on each edge the excess is the fewest nets with `low` above 1 that go without a
 /// track on a layer that they want, over all ways to hand out tracks; and `ldof`, in a job with a `low` line, is their
 /// sum. Edges with more than `most` ways are passed over. Returns how many ways were looked at, on edges with such nets.
 pub fn directives(job: &Job, excess: &[u64], ldof: Option<u64>, most: u64) -> Result<u64, String> {

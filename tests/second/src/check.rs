@@ -2,10 +2,13 @@
 //! numbers, the order, that each layer was legal at its net's turn, and for each tile of each net, by spans of layers
 //! instead of combinations, that no choice has fewer vias and that none with as few comes before it in walk order.
 //! The walks are compared as such: plans alone would not show a wrong walk (see `brute`). What the layer directives leave
-//! without a track is found by a hand-out from the lowest layer up, and by a bound that no hand-out goes below.
+//! without a track is found by a hand-out from the lowest layer up, and by a bound that no hand-out goes below. Which edges
+//! are kept is found by a tree that grows by the earliest entry next to it, and by the pins on both sides of each edge.
 
-use crate::job::{Direction, Job, Net};
+use crate::cut::of_kept;
+use crate::job::{Direction, Grid, Job, Net};
 use crate::plan::{vias, walk, Plan};
+use std::collections::BTreeSet;
 use std::ops::Range;
 
 fn claim(holds: bool, what: impl Fn() -> String) -> Result<(), String> {
@@ -219,8 +222,77 @@ fn must_go_without(job: &Job) -> Result<u64, String> {
     Ok(sum)
 }
 
+/// A tile that the growing tree took up: the place of the entry that it took it up by, none at the first; and the tile
+/// before it.
+struct Grown {
+    tile: usize,
+    entry: Option<usize>,
+    before: usize,
+}
+
+/// Grows a tree from the first pin's tile: again and again it takes up one more tile by the earliest entry that leads out of
+/// it. An entry is left out exactly if it closes a ring with earlier ones: then these lead from one of its ends to the other,
+/// and the tree went along them first.
+fn grow(grid: Grid, net: &Net) -> Vec<Grown> {
+    let mut entries_at: Vec<Vec<usize>> = vec![Vec::new(); grid.tiles()];
+    for (entry, edge) in net.edges.iter().enumerate() {
+        grid.ends(*edge).into_iter().for_each(|tile| entries_at[tile].push(entry));
+    }
+    let mut inside = vec![false; grid.tiles()];
+    let mut out: BTreeSet<(usize, usize)> = BTreeSet::new(); // entries with the tile inside
+    let mut grown = vec![Grown { tile: net.pins[0].tile, entry: None, before: net.pins[0].tile }];
+    loop {
+        let tile = grown.last().unwrap().tile;
+        inside[tile] = true;
+        out.extend(entries_at[tile].iter().map(|entry| (*entry, tile)));
+        let next = loop {
+            let Some((entry, before)) = out.pop_first() else { return grown };
+            let far = grid.ends(net.edges[entry]).into_iter().find(|tile| !inside[*tile]);
+            if let Some(tile) = far {
+                break Grown { tile, entry: Some(entry), before };
+            }
+        };
+        grown.push(next);
+    }
+}
+
+/// Which entries of a net's `edges` line are kept: without a ring all; else the tree's edges with a pin on both sides.
+fn kept(grid: Grid, net: &Net) -> Vec<bool> {
+    let grown = grow(grid, net);
+    if grown.len() > net.edges.len() {
+        return vec![true; net.edges.len()];
+    }
+    // by tile: the pins in it and in all tiles that the tree took up behind it
+    let mut pins = vec![0; grid.tiles()];
+    net.pins.iter().for_each(|pin| pins[pin.tile] += 1);
+    let mut kept = vec![false; net.edges.len()];
+    for Grown { tile, entry, before } in grown.iter().rev() {
+        if let Some(entry) = entry {
+            kept[*entry] = (1..net.pins.len()).contains(&pins[*tile]);
+            pins[*before] += pins[*tile];
+        }
+    }
+    kept
+}
+
+/// The job and its plan over the kept edges alone. The dropped ones, and only they, have layer 0 in the plan.
+fn over_kept(job: &Job, plan: &Plan) -> Result<(Job, Plan), String> {
+    claim(plan.layers.len() == job.nets.len(), || "lengths".to_string())?;
+    let (mut job, mut plan) = (job.clone(), plan.clone());
+    for (place, net) in job.nets.iter_mut().enumerate() {
+        let (kept, layers) = (kept(job.grid, net), &mut plan.layers[place]);
+        claim(layers.len() == kept.len(), || format!("net {}: {} layers", place + 1, layers.len()))?;
+        let as_kept = kept.iter().zip(&*layers).all(|(kept, layer)| *kept == (*layer > 0));
+        claim(as_kept, || format!("net {}: {layers:?} where {kept:?} are kept", place + 1))?;
+        *layers = of_kept(layers, &kept);
+        net.edges = of_kept(&net.edges, &kept);
+    }
+    Ok((job, plan))
+}
+
 /// All that is checked of a plan of any size.
 pub fn check(job: &Job, plan: &Plan) -> Result<(), String> {
+    let (job, plan) = &over_kept(job, plan)?;
     let edges = job.grid.edges();
     let mut demand = vec![0; edges];
     job.nets.iter().flat_map(|net| &net.edges).for_each(|edge| demand[*edge] += 1u64);
@@ -235,7 +307,7 @@ pub fn check(job: &Job, plan: &Plan) -> Result<(), String> {
     }
     let mut metal = Metal { job, flat, limit, load: vec![vec![0; job.layers]; edges] };
 
-    claim(plan.order.len() == job.nets.len() && plan.layers.len() == job.nets.len(), || "lengths".to_string())?;
+    claim(plan.order.len() == job.nets.len(), || "lengths".to_string())?;
     let mut placed = vec![false; job.nets.len()];
     for (turn, entry) in plan.order.iter().enumerate() {
         let index = entry.net as usize - 1;
@@ -257,7 +329,6 @@ pub fn check(job: &Job, plan: &Plan) -> Result<(), String> {
             claim(in_order, || format!("net {} before net {}", before.net, entry.net))?;
         }
         let layers = &plan.layers[index];
-        claim(layers.len() == net.edges.len(), || format!("net {}: {} layers", entry.net, layers.len()))?;
         check_net(&metal, net, layers).map_err(|fault| format!("net {}: {fault}", entry.net))?;
         let counted = vias(job.grid, net, layers);
         claim(plan.vias[index] == counted, || format!("net {}: {counted} vias", entry.net))?;

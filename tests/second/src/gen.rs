@@ -1,6 +1,7 @@
 //! Jobs, damaged texts and lent lengths, each drawn from a seed alone.
 
-use crate::job::{Direction, Grid, Job, Lengths, Net, Pin, Refusal, EAST, MOST_CAPACITY, TEXT_LIMIT, WEST};
+use crate::job::{Direction, Grid, Job, Lengths, Net, Pin, Refusal};
+use crate::job::{EAST, MOST_CAPACITY, NORTH, SOUTH, TEXT_LIMIT, WEST};
 use std::collections::BTreeSet;
 
 /// The generator of random numbers (splitmix64).
@@ -154,6 +155,54 @@ fn fishbone(rng: &mut Rng, grid: Grid) -> Vec<usize> {
     edges
 }
 
+/// The edges round a rectangle of tiles, and a tail from it: a ring, and besides what closes it at most so many edges. None
+/// where there is no room for it.
+fn frame(rng: &mut Rng, grid: Grid, most: usize) -> Option<Vec<usize>> {
+    let sides = most.div_ceil(2); // width and height together, counted in edges
+    if grid.width < 2 || grid.height < 2 || sides < 2 {
+        return None;
+    }
+    let width = rng.range(1, (sides - 1).min(grid.width - 1));
+    let height = rng.range(1, (sides - width).min(grid.height - 1));
+    let (left, low) = (rng.below(grid.width - width), rng.below(grid.height - height));
+    let edge = |x: usize, y: usize, way: usize| grid.way(y * grid.width + x, way).unwrap().1;
+    let rows = (left..left + width).flat_map(|x| [edge(x, low, EAST), edge(x, low + height, EAST)]);
+    let columns = (low..low + height).flat_map(|y| [edge(left, y, NORTH), edge(left + width, y, NORTH)]);
+    let mut edges: Vec<usize> = rows.chain(columns).collect();
+    let mut inside: BTreeSet<usize> = edges.iter().flat_map(|edge| grid.ends(*edge)).collect();
+    let mut tile = rng.pick(&inside.iter().copied().collect::<Vec<_>>());
+    for _ in 0..rng.range(0, most + 1 - edges.len()) {
+        let free: Vec<(usize, usize)> = (0..4).filter_map(|way| grid.way(tile, way)).collect();
+        let free: Vec<(usize, usize)> = free.into_iter().filter(|(tile, _)| !inside.contains(tile)).collect();
+        if free.is_empty() {
+            break;
+        }
+        let (next, edge) = rng.pick(&free);
+        inside.insert(next);
+        edges.push(edge);
+        tile = next;
+    }
+    Some(edges)
+}
+
+/// More edges between the tiles of these, each of which closes a ring: the least number, a few, half of those that there are,
+/// or all.
+fn close_rings(rng: &mut Rng, grid: Grid, edges: &mut Vec<usize>, least: usize) {
+    let there: BTreeSet<usize> = edges.iter().copied().collect();
+    let tiles: BTreeSet<usize> = edges.iter().flat_map(|edge| grid.ends(*edge)).collect();
+    let closes = |edge: &usize| !there.contains(edge) && grid.ends(*edge).iter().all(|tile| tiles.contains(tile));
+    let mut more: Vec<usize> = (0..grid.edges()).filter(closes).collect();
+    rng.shuffle(&mut more);
+    let count = match rng.below(5) {
+        0 | 1 => least,
+        2 => rng.range(1, 5),
+        3 => more.len() / 2,
+        _ => more.len(),
+    };
+    more.truncate(count);
+    edges.append(&mut more);
+}
+
 /// Up to `most` pins in these tiles, no two alike.
 fn pins(rng: &mut Rng, tiles: &[usize], layers: usize, most: usize) -> Vec<Pin> {
     let style = rng.below(4);
@@ -218,12 +267,18 @@ impl Lows {
     }
 }
 
-/// A net of the job with at most this many edges; no edge goes a way that no layer runs.
-fn net(rng: &mut Rng, job: &Job, edges: usize, growth: Growth) -> Net {
+/// A net of the job with at most this many edges, besides those that close `rings`, where it has them; no edge goes a way
+/// that no layer runs.
+fn net(rng: &mut Rng, job: &Job, most: usize, growth: Growth, rings: bool) -> Net {
     let Job { grid, layers, .. } = *job;
     let direction = |way: usize| if [EAST, WEST].contains(&way) { Direction::East } else { Direction::North };
     let ways: Vec<usize> = (0..4).filter(|way| job.has_layer(direction(*way))).collect();
-    let mut edges = tree(rng, grid, &ways, edges, growth);
+    let framed = if rings && ways.len() == 4 && rng.chance(2, 3) { frame(rng, grid, most) } else { None };
+    let least = usize::from(framed.is_none());
+    let mut edges = framed.unwrap_or_else(|| tree(rng, grid, &ways, most, growth));
+    if rings && ways.len() == 4 {
+        close_rings(rng, grid, &mut edges, least);
+    }
     rng.shuffle(&mut edges);
     let mut net = Net { low: None, pins: Vec::new(), edges };
     let tiles: Vec<usize> = net.tiles(grid).into_iter().collect();
@@ -309,9 +364,12 @@ fn all_tiles(grid: Grid) -> Vec<usize> {
 }
 
 /// A job whose sums are at their bounds: one track count on all layers of all edges, and nets over all tiles, as many as
-/// the text holds, at most 4,096. With `low` lines, their excess is at its bound too.
+/// the text holds, at most 4,096. With `low` lines, their excess is at its bound too. Or nets of all edges of the largest
+/// grid, which lose the most.
 fn bounds(rng: &mut Rng) -> Job {
+    let rings = rng.chance(1, 4);
     let (width, height, layers, tracks) = match rng.below(3) {
+        _ if rings => (64, 64, rng.range(2, 8), rng.pick(&[0, 1, 9])),
         // c(e), and C of a net
         0 => (64, 64, 8, MOST_CAPACITY),
         // D of a net, its score and TO: where no number has two digits, a text has the most entries
@@ -325,10 +383,12 @@ fn bounds(rng: &mut Rng) -> Job {
     let mut job = Job { grid, layers, dirs: None, alpha, beta, gamma, capacity, nets: Vec::new() };
     let lows = Lows::draw(rng, layers);
     let mut length = write(&job).len() + "4096".len();
+    let tiles: Vec<usize> = (0..grid.tiles()).collect();
     while job.nets.len() < 4096 {
-        let mut edges = all_tiles(grid);
+        let mut edges = if rings { (0..grid.edges()).collect() } else { all_tiles(grid) };
         rng.shuffle(&mut edges);
-        let net = Net { low: lows.line(rng), pins: pins(rng, &[0], layers, 1), edges };
+        let pins = if rings { pins(rng, &tiles, layers, 60) } else { pins(rng, &[0], layers, 1) };
+        let net = Net { low: lows.line(rng), pins, edges };
         let mut lines = Vec::new();
         write_net(&mut lines, grid, job.nets.len() + 1, &net);
         length += lines.len();
@@ -340,7 +400,8 @@ fn bounds(rng: &mut Rng) -> Job {
     job
 }
 
-/// A valid job of this kind; about half of them have a `dirs` line, but for those at the bounds, and about half `low` lines.
+/// A valid job of this kind; about half of them have a `dirs` line, but for those at the bounds, about half `low` lines, and
+/// about a third nets with rings.
 pub fn job(rng: &mut Rng, kind: Kind) -> Job {
     if kind == Kind::Bounds {
         return bounds(rng);
@@ -350,10 +411,14 @@ pub fn job(rng: &mut Rng, kind: Kind) -> Job {
         1 => high,
         _ => rng.range(low, high),
     };
+    // of ten nets so many have rings: up to twice as many edges as tiles
+    let ringed = if rng.chance(1, 2) { rng.pick(&[2, 5, 10, 10]) } else { 0 };
+    let twice = if ringed > 0 { 2 } else { 1 };
     let crosses = kind == Kind::Tiny && rng.chance(1, 4); // tiny nets with three-branch tiles
-    let crowded = kind == Kind::Tiny && !crosses && rng.chance(1, 4); // several tiny nets on one edge
+    let crowded = kind == Kind::Tiny && !crosses && ringed == 0 && rng.chance(1, 2); // several tiny nets on one edge
     let (low, high) = match kind {
         Kind::Tiny if crosses => (3, 4),
+        Kind::Tiny if ringed > 0 => (2, 4),
         Kind::Tiny => (1, 4),
         Kind::Congested | Kind::Plenty => (2, 16),
         Kind::Branchy => (3, 24),
@@ -421,21 +486,22 @@ pub fn job(rng: &mut Rng, kind: Kind) -> Job {
         Kind::Short => rng.pick(&[500, 1000, 3000, 4095, 4096]),
         _ => 4096,
     };
-    let mut left = if full { TEXT_LIMIT - write(&job).len() - 3 } else { TEXT_LIMIT };
+    let mut left = TEXT_LIMIT - write(&job).len() - 3;
+    let mut spent = 0; // edges of a tiny job, without those that close rings
     let short = kind == Kind::Full && rng.chance(1, 2); // many short nets fill the text, else fewer long ones
     let lows = Lows::draw(rng, layers);
     for _ in 0..nets {
         // 16 bytes for each edge and its pin, and as many for the net itself, are enough
-        let room = left / 20;
+        let room = left / 20 / twice;
         if room < 5 {
             break;
         }
         let most = match kind {
             Kind::Tiny => {
                 // the layerings of the job stay few
-                let left = (15.0 / (choices as f64).log2()) as usize - job.entries();
+                let left = (15.0 / (choices as f64).log2()) as usize - spent;
                 let most = left.min(6);
-                if crosses || crowded || rng.chance(1, 3) {
+                if crosses || crowded || ringed > 0 || rng.chance(1, 3) {
                     most
                 } else {
                     rng.range(0, most)
@@ -449,7 +515,7 @@ pub fn job(rng: &mut Rng, kind: Kind) -> Job {
             Kind::Full if short => rng.range(20, 60).min(room - 4),
             Kind::Full => rng.range(1, grid.tiles()).min(room - 4),
             // an edge and its part of the pins take about ten bytes, and each net has its share of what is left
-            _ => rng.range(0, left / (nets - job.nets.len()) / 6).min(room - 4),
+            _ => rng.range(0, left / (nets - job.nets.len()) / 6 / twice).min(room - 4),
         };
         let growth = match kind {
             Kind::Tiny if crosses => Growth::Bush,
@@ -458,7 +524,9 @@ pub fn job(rng: &mut Rng, kind: Kind) -> Job {
             Kind::Full if !short && grid.tiles() < room => rng.pick(&[Growth::Any, Growth::Comb, Growth::Fishbone]),
             _ => rng.pick(&[Growth::Snake, Growth::Bush, Growth::Any, Growth::Comb]),
         };
-        let mut net = net(rng, &job, most, growth);
+        let rings = rng.chance(ringed, 10) && left > 40 * grid.tiles();
+        let mut net = net(rng, &job, most, growth, rings);
+        spent += net.tiles(grid).len() - 1;
         net.low = lows.line(rng);
         let mut lines = Vec::new();
         write_net(&mut lines, grid, job.nets.len() + 1, &net);
@@ -566,7 +634,7 @@ pub enum Damage {
     PinTwice,
     /// An edge twice.
     EdgeTwice,
-    /// An edge that closes a ring.
+    /// An edge that closes a ring of a net, or a ring apart from it.
     Ring,
     /// A pin or an edge off the net.
     Off,
@@ -616,6 +684,8 @@ pub enum Known {
     /// With long enough buffers it is accepted: it is the text of the job, or of the job with another `low` line, or one
     /// more or less.
     Accepted,
+    /// The same with one entry more on an `edges` line.
+    Longer,
     /// With long enough buffers it gets this refusal.
     Refused(u32, u32),
     /// Nothing.
@@ -781,11 +851,20 @@ fn damaged(rng: &mut Rng, job: &Job, damage: Damage) -> (Vec<u8>, Known) {
                     net.edges.insert(at, edge);
                     Known::Refused(6, edges_line)
                 }
-                Damage::Ring if !edges_with(2).is_empty() => {
+                Damage::Ring if !edges_with(2).is_empty() && rng.chance(1, 2) => {
                     let edge = rng.pick(&edges_with(2));
                     let at = rng.below(net.edges.len() + 1);
                     net.edges.insert(at, edge);
-                    Known::Refused(7, edges_line)
+                    Known::Longer
+                }
+                Damage::Ring if !edges_with(0).is_empty() => {
+                    let edge = rng.pick(&edges_with(0));
+                    let apart = square_at(rng, grid, edge);
+                    let apart = apart.into_iter().filter(|edge| edges_with(0).contains(edge));
+                    for edge in apart.collect::<Vec<_>>() {
+                        net.edges.insert(rng.below(net.edges.len() + 1), edge);
+                    }
+                    Known::Refused(8, edges_line)
                 }
                 Damage::Off if !edges_with(0).is_empty() && rng.chance(1, 2) => {
                     let edge = rng.pick(&edges_with(0));
@@ -809,6 +888,21 @@ fn damaged(rng: &mut Rng, job: &Job, damage: Damage) -> (Vec<u8>, Known) {
         }
     }
     (text, Known::Accepted)
+}
+
+/// The four edges round a square of tiles with this edge, or the edge alone where the grid has one row or one column.
+fn square_at(rng: &mut Rng, grid: Grid, edge: usize) -> Vec<usize> {
+    let (tile, east) = grid.named(edge);
+    let sides = if east { [NORTH, SOUTH] } else { [EAST, WEST] };
+    let sides: Vec<usize> = sides.into_iter().filter(|way| grid.way(tile, *way).is_some()).collect();
+    if sides.is_empty() {
+        return vec![edge];
+    }
+    let far = grid.ends(edge)[1];
+    let side = rng.pick(&sides);
+    let ((there, first), (_, second)) = (grid.way(tile, side).unwrap(), grid.way(far, side).unwrap());
+    let (_, opposite) = grid.way(there, if east { EAST } else { NORTH }).unwrap();
+    vec![edge, first, second, opposite]
 }
 
 /// The lines of the job with another `dirs` line, or with one in the wrong place; and what is known of the text.
@@ -1077,7 +1171,7 @@ impl Drawn {
     pub fn outcome(&self, lent: Lengths) -> Option<Option<Refusal>> {
         let (number, line) = match self.known {
             Known::Open => return None,
-            Known::Accepted => (0, u32::MAX),
+            Known::Accepted | Known::Longer => (0, u32::MAX),
             Known::Refused(number, line) => (number, line),
         };
         if self.text.len() > TEXT_LIMIT {
@@ -1099,8 +1193,9 @@ impl Drawn {
         if number > 0 {
             return refused(number, line);
         }
-        let print_short = lent.print.is_some_and(|length| length < need.print.unwrap());
-        if lent.answer < need.answer || print_short {
+        let more = usize::from(self.known == Known::Longer);
+        let print_short = lent.print.is_some_and(|length| length < need.print.unwrap() + 2 * more);
+        if lent.answer < need.answer + more || print_short {
             let last_line = self.text.iter().filter(|byte| **byte == 10).count();
             return refused(11, last_line as u32);
         }

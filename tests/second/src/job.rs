@@ -9,8 +9,9 @@ pub const TEXT_LIMIT: usize = 1_048_576;
 /// The highest track count of an edge on one layer.
 pub const MOST_CAPACITY: u64 = 65_535;
 
-/// The highest number in the table of refusals.
+/// The highest number in the table of refusals, and the one that S-6 ended.
 pub const LAST_REFUSAL: usize = 13;
+pub const NO_LONGER: usize = 7;
 
 /// A refusal: its number in the table of documents 01 and 02, and the line.
 #[derive(Clone, Copy, PartialEq, Eq, Debug)]
@@ -112,7 +113,8 @@ pub struct Pin {
     pub layer: u8,
 }
 
-/// A net: the layer of its `low` line, where it has one; its pins and its edges, both in the order of their lines.
+/// A net: the layer of its `low` line, where it has one; its pins and its edges, both in the order of their lines. As read,
+/// the edges are all entries of the line; in a cut job (`cut`), those that are kept.
 #[derive(Clone, PartialEq, Eq, Debug, Default)]
 pub struct Net {
     pub low: Option<u8>,
@@ -420,7 +422,7 @@ impl<'a> Reader<'a> {
         Ok(pins)
     }
 
-    /// An `edges` line: 2, then 3, 6, 7, 8 and 13.
+    /// An `edges` line: 2, then 3, 6, 8 and 13, all of them over all entries: rings are cut later (`cut`), and never refused.
     fn edges(&mut self, grid: Grid, dirs: Option<&[Direction]>, pins: &[Pin]) -> Result<Vec<usize>, Refusal> {
         let value = self.value("edges")?;
         let list: Option<Vec<[usize; 3]>> = entries(value, b';').into_iter().map(edge_entry).collect();
@@ -434,9 +436,6 @@ impl<'a> Reader<'a> {
             return Err(self.refusal(6));
         }
         let neighbours = neighbours(grid, &edges);
-        if has_ring(&neighbours) {
-            return Err(self.refusal(7));
-        }
         let reached = reached(&neighbours, pins[0].tile);
         let pins_reached = pins.iter().all(|pin| reached.contains(&pin.tile));
         let edges_reached = neighbours.keys().all(|tile| reached.contains(tile));
@@ -460,26 +459,6 @@ fn neighbours(grid: Grid, edges: &[usize]) -> BTreeMap<usize, Vec<usize>> {
         neighbours.entry(b).or_default().push(a);
     }
     neighbours
-}
-
-/// Takes away, again and again, a tile with one edge left, and that edge. No ring loses an edge by this. Where edges
-/// are left at the end, each tile that they meet has two or more of them, so going on and on along them closes a ring.
-fn has_ring(neighbours: &BTreeMap<usize, Vec<usize>>) -> bool {
-    let mut left: BTreeMap<usize, usize> = neighbours.iter().map(|(tile, ends)| (*tile, ends.len())).collect();
-    let mut leaves: Vec<usize> = left.keys().copied().filter(|tile| left[tile] == 1).collect();
-    while let Some(leaf) = leaves.pop() {
-        if left[&leaf] == 0 {
-            continue; // its one edge went with the tile at the other end
-        }
-        left.insert(leaf, 0);
-        let other = neighbours[&leaf].iter().copied().find(|tile| left[tile] > 0);
-        let other = other.expect("the edge that is left has another end");
-        left.insert(other, left[&other] - 1);
-        if left[&other] == 1 {
-            leaves.push(other);
-        }
-    }
-    left.values().any(|edges| *edges > 0)
 }
 
 /// The tiles that are reached from this one along the edges, itself included.

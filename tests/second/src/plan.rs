@@ -1,6 +1,7 @@
 //! The plan: overflow on the flat plan, scores and order, each net's walk, its layers, what the layer directives lack, and
-//! the print.
+//! the print. All but `plan` itself is for a job without rings, as the cut leaves it.
 
+use crate::cut::{cut, kept};
 use crate::job::{Direction, Grid, Job, Net};
 use std::cmp::Reverse;
 use std::collections::{BTreeMap, BTreeSet, VecDeque};
@@ -108,6 +109,7 @@ pub fn walk(grid: Grid, net: &Net) -> Vec<Step> {
     let mut steps = vec![Step { tile: first, edge: None, branches: Vec::new() }];
     let mut queue = VecDeque::from([0]);
     while let Some(place) = queue.pop_front() {
+        assert!(place < grid.tiles(), "a net without rings");
         for way in 0..4 {
             let Some((tile, edge)) = grid.way(steps[place].tile, way) else { continue };
             if edges.contains(&edge) && steps[place].edge != Some(edge) {
@@ -260,7 +262,7 @@ pub fn choose(job: &Job, flat: &Flat, load: &Load, net: &Net, walk: &[Step]) -> 
 #[derive(Clone, PartialEq, Eq, Debug)]
 pub struct Plan {
     pub order: Vec<Entry>,
-    /// By net in job order: its layers in the order of its `edges` line.
+    /// By net in job order: its layers in the order of its `edges` line, 0 for an edge that is dropped.
     pub layers: Vec<Vec<u8>>,
     /// By net in job order.
     pub vias: Vec<u64>,
@@ -293,7 +295,18 @@ pub fn excess(job: &Job) -> Vec<u64> {
     (0..job.grid.edges()).map(of_edge).collect()
 }
 
+/// The plan of a job: that of the cut job, with 0 for each edge that is dropped.
 pub fn plan(job: &Job) -> Plan {
+    let mut plan = plan_without_rings(&cut(job));
+    for (layers, net) in plan.layers.iter_mut().zip(&job.nets) {
+        let mut given = std::mem::take(layers).into_iter();
+        let layer = |kept: bool| if kept { given.next().expect("a layer for each kept edge") } else { 0 };
+        *layers = kept(job.grid, net).into_iter().map(layer).collect();
+    }
+    plan
+}
+
+fn plan_without_rings(job: &Job) -> Plan {
     let flat = flat(job);
     let order = order(job, &flat);
     let mut load: Load = vec![vec![0; job.grid.edges()]; job.layers];

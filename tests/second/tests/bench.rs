@@ -4,9 +4,10 @@ use second::ask::answer_all;
 use second::brute;
 use second::calls::{answer, held, Buffers, Planner, Returned, Second};
 use second::check;
+use second::cut::cut;
 use second::job::{read, Grid, Lengths, Net, Refusal, TEXT_LIMIT};
 use second::plan::{excess, flat, plan, print, walk, Entry, Plan};
-use second::run::BRUTE_MOST_HAND_OUTS;
+use second::run::{BRUTE_MOST_ENTRIES, BRUTE_MOST_HAND_OUTS};
 
 const AMPLE: Lengths = Lengths { work: 1 << 19, order: 4096, answer: 1 << 18, print: Some(1 << 20) };
 
@@ -45,10 +46,11 @@ fn planned(text: &str) -> Plan {
     held(&Second, text.as_bytes(), AMPLE, &Ok(plan(&job)), 8).unwrap();
     let plan = answer(text.as_bytes(), AMPLE).unwrap();
     check::check(&job, &plan).unwrap();
-    if brute::layerings(&job, 100_000).is_some() {
+    let cut = cut(&job);
+    if (cut == job || job.entries() <= BRUTE_MOST_ENTRIES) && brute::layerings(&cut, 100_000).is_some() {
         brute::check(&job, &plan.order, &plan.layers.concat(), &exact).unwrap();
     }
-    brute::directives(&job, &excess(&job), plan.ldof, BRUTE_MOST_HAND_OUTS).unwrap();
+    brute::directives(&cut, &excess(&cut), plan.ldof, BRUTE_MOST_HAND_OUTS).unwrap();
     plan
 }
 
@@ -341,11 +343,11 @@ fn edges_without_a_layer() {
     };
     assert_eq!(refused(&job("0,0,e;1,0,e")), (0, 0));
     assert_eq!(refused(&job("0,0,e;1,0,n")), (13, 18));
-    // 2, 3, 6, 7 and 8 come first
+    // 2, 3, 6 and 8 come first; a ring is no reason, and 13 is judged before the cut
     assert_eq!(refused(&job("0,0,n;0,0,x")), (2, 18));
     assert_eq!(refused(&job("0,0,n;2,0,e")), (3, 18));
     assert_eq!(refused(&job("0,0,n;0,0,n")), (6, 18));
-    assert_eq!(refused(&job("0,0,n;0,1,e;1,0,n;0,0,e")), (7, 18));
+    assert_eq!(refused(&job("0,0,n;0,1,e;1,0,n;0,0,e")), (13, 18));
     assert_eq!(refused(&job("0,0,n;1,1,e")), (8, 18));
     // and 11 after it, as a later line does
     let short = Lengths { answer: 0, print: Some(0), ..AMPLE };
@@ -575,12 +577,154 @@ fn c1_with_low_lines() {
 fn c10() {
     let square = ["0,0,e", "0,1,e", "0,0,n", "1,0,n"];
     let job = |edges: &[&str]| text([2, 2, 2], [1, 1, 1], &[("1,1", "1,1"); 2], &[("0,0,1;1,1,2", &edges.join(";"))]);
-    assert_eq!(refused(&job(&square)), (7, 14));
     for left_out in 0..4 {
         let mut edges = square.to_vec();
         edges.remove(left_out);
         planned(&job(&edges));
     }
+    // S-6: the square itself is accepted; the last edge closes it, and with pins in all tiles no other is dropped
+    assert_eq!(planned(&job(&square)).layers, [[0, 1, 1, 0]]);
+    let all = job(&square).replace("pins=0,0,1;1,1,2", "pins=0,0,1;1,0,1;0,1,1;1,1,1");
+    assert_eq!(planned(&all).layers, [[1, 1, 1, 0]]);
+}
+
+/// S-6: nets on three by three tiles, with one track on each layer of each edge.
+fn nine_tiles(nets: &[(&str, &str)]) -> String {
+    text([3, 3, 2], [1, 1, 1], &[("1,1,1,1,1,1", "1,1,1,1,1,1"); 2], nets)
+}
+
+/// The edges of the lower left square of these tiles, and a tail of two edges from it: (1, 0) to (2, 0) to (2, 1).
+const SQUARE: &str = "0,0,e;1,0,n;0,1,e;0,0,n";
+const TAIL: &str = "1,0,e;2,0,n";
+
+/// The layers of a net with these pins and edges: which of the edges are kept.
+fn kept(pins: &str, edges: &str) -> Vec<bool> {
+    planned(&nine_tiles(&[(pins, edges)])).layers[0].iter().map(|layer| *layer > 0).collect()
+}
+
+#[test]
+fn what_a_ring_loses() {
+    let (yes, no) = (true, false);
+    let all = "0,0,1;1,0,1;0,1,1;1,1,1";
+    // the last edge along the line that closes the ring, whichever it is
+    assert_eq!(kept(all, SQUARE), [yes, yes, yes, no]);
+    assert_eq!(kept(all, "0,0,n;0,1,e;1,0,n;0,0,e"), [yes, yes, yes, no]);
+    assert_eq!(kept("0,0,1;1,0,1;0,1,1;1,1,1;2,0,1", &format!("1,0,e;{SQUARE}")), [yes, yes, yes, yes, no]);
+    assert_eq!(kept("0,0,1;1,0,1;0,1,1;1,1,1;2,0,1", &format!("{SQUARE};1,0,e")), [yes, yes, yes, no, yes]);
+    // what is then loose, as far as the pins; the root of the walk may go
+    assert_eq!(kept("0,0,1;1,1,1", SQUARE), [yes, yes, no, no]);
+    assert_eq!(kept("1,0,1;1,1,1", SQUARE), [no, yes, no, no]);
+    assert_eq!(kept("1,0,1;0,1,1", "0,0,n;0,0,e;1,0,n;0,1,e"), [yes, yes, no, no]);
+    // a net with pins in one tile loses all, and keeps the vias of its pins
+    let one = planned(&nine_tiles(&[("1,1,1;1,1,2", SQUARE)]));
+    assert_eq!((&one.layers[0][..], one.total_vias, one.order[0].score), (&[0; 4][..], 1, 2000));
+    assert_eq!(print(&one).lines().nth(3), Some("layers=0,0,0,0"));
+    // two rings that share an edge
+    let two = "0,0,e;0,0,n;0,1,e;1,0,n;1,0,e;2,0,n;1,1,e";
+    assert_eq!(kept("0,0,1;1,0,1;2,0,1;0,1,1;1,1,1;2,1,1", two), [yes, yes, yes, no, yes, yes, no]);
+    assert_eq!(kept("0,1,1;2,0,1", two), [yes, yes, no, no, yes, no, no]);
+}
+
+#[test]
+fn tails_of_rings() {
+    let (yes, no) = (true, false);
+    let with_tail = format!("{SQUARE};{TAIL}");
+    assert_eq!(kept("0,0,1;1,1,1", &with_tail), [yes, yes, no, no, no, no]);
+    assert_eq!(kept("0,0,1;1,1,1;2,0,1", &with_tail), [yes, yes, no, no, yes, no]); // a pin in its middle
+    assert_eq!(kept("0,0,1;1,1,1;2,1,1", &with_tail), [yes, yes, no, no, yes, yes]); // at its end
+    assert_eq!(kept("0,0,1;1,1,1", &format!("{TAIL};{SQUARE}")), [no, no, yes, yes, no, no]);
+    // beside it a net without a ring keeps the same tail
+    let beside = planned(&nine_tiles(&[("0,0,1", &format!("0,0,e;{TAIL}")), ("0,0,1;1,1,1", &with_tail)]));
+    assert_eq!(beside.layers.concat(), [2, 2, 2, 1, 1, 0, 0, 0, 0]);
+    assert_eq!(kept("0,0,1", &format!("0,0,e;{TAIL}")), [yes, yes, yes]);
+}
+
+#[test]
+fn what_is_taken_after_the_cut() {
+    // L, D and C over the kept edges: one of four
+    let score = |edges: &str| {
+        let job = text([3, 3, 2], [3, 0, 6], &[("1,1,1,1,1,1", "1,1,1,1,1,1"); 2], &[("0,0,1;1,0,1", edges); 3]);
+        planned(&job).order[0].score
+    };
+    assert_eq!(score(SQUARE), 3000 + 6000 * 3 / 2);
+    assert_eq!(score("1,0,n;0,1,e;0,0,n;0,0,e"), 1000 + 6000 * 9 / 6);
+    // demand and overflow: three nets in one square, each on the edge between its pins
+    let pairs = ["0,0,1;1,0,1", "1,0,1;1,1,1", "0,1,1;1,1,1"].map(|pins| (pins, SQUARE));
+    let tracks = [("1,0,1,0,0,0", "0,1,0,0,0,0"), ("0,0,0,0,0,0", "0,0,0,0,0,0")];
+    let plan = planned(&text([3, 3, 2], [1; 3], &tracks, &pairs));
+    assert_eq!((plan.total_overflow, plan.max_overflow), (0, 0));
+    assert_eq!(plan.layers, [[1, 0, 0, 0], [0, 1, 0, 0], [0, 0, 1, 0]]);
+    // directives: the nets want layer 2, where there are no tracks
+    let low = planned(&marked(&[2, 2, 2], text([3, 3, 2], [1; 3], &tracks, &pairs)));
+    assert_eq!(low.ldof, Some(3));
+}
+
+#[test]
+fn refusals_beside_rings() {
+    let one = |pins: &str, edges: &str| refused(&nine_tiles(&[(pins, edges)]));
+    // 6 where the second would close a ring, or is the one that closes it
+    assert_eq!(one("0,0,1", &format!("{SQUARE};0,0,n")), (6, 14));
+    assert_eq!(one("0,0,1", &format!("{SQUARE};0,0,e")), (6, 14));
+    // 8 over all entries, before the cut
+    assert_eq!(one("0,0,1;2,2,1", SQUARE), (8, 14));
+    assert_eq!(one("2,2,1", SQUARE), (8, 14));
+    assert_eq!(one("0,0,1", &format!("{SQUARE};2,1,n")), (8, 14));
+    assert_eq!(one("0,0,1", &format!("0,0,e;{}", "1,1,e;1,1,n;2,1,n;1,2,e")), (8, 14));
+    // 13 too, although the only edge without a layer would go
+    let along = |edges: &str| {
+        let text = text([2, 2, 2], [1; 3], &[("1,1", "0,0"); 2], &[("0,0,1;1,0,1", edges)]);
+        refused(&directed("h,h", text))
+    };
+    assert_eq!(along(SQUARE), (13, 15));
+    assert_eq!(along("0,0,e"), (0, 0));
+    // 11: A counts the entries, dropped or not
+    let job = nine_tiles(&[("1,1,1", SQUARE)]);
+    let need = Lengths { work: 48 + 24 + 288, order: 1, answer: 4, print: Some(256 + 64 + 8) };
+    assert_eq!(read(job.as_bytes(), need).unwrap().need(), need);
+    assert_eq!(refusal(&job, need), (0, 0));
+    assert_eq!(refusal(&job, Lengths { answer: 3, ..need }), (11, 14));
+    assert_eq!(refusal(&job, Lengths { print: Some(327), ..need }), (11, 14));
+}
+
+#[test]
+fn all_edges_of_the_largest_grid() {
+    let east = (0..64).flat_map(|y| (0..63).map(move |x| format!("{x},{y},e")));
+    let north = (0..63).flat_map(|y| (0..64).map(move |x| format!("{x},{y},n")));
+    let edges: Vec<String> = east.chain(north).collect();
+    assert_eq!(edges.len(), 8064);
+    let tracks = vec!["1"; 63 * 64].join(",");
+    let kept_of = |pins: &str, edges: &str| {
+        let plan = planned(&text([64, 64, 2], [1; 3], &[(tracks.as_str(), tracks.as_str()); 2], &[(pins, edges)]));
+        assert_eq!((plan.layers[0].len(), plan.total_vias), (8064, 0));
+        (0..8064).filter(|place| plan.layers[0][*place] > 0).collect::<Vec<usize>>()
+    };
+    // all rows come first, then the first column: from corner to corner along both
+    let corners = kept_of("0,0,1;63,63,1", &edges.join(";"));
+    let wanted: Vec<usize> = (63 * 63..64 * 63).chain((0..63).map(|y| 64 * 63 + 64 * y)).collect();
+    assert_eq!(corners, wanted);
+    assert_eq!(kept_of("7,7,1", &edges.join(";")), []);
+    // backwards, the columns come first, and then the last row
+    let backwards: Vec<String> = edges.into_iter().rev().collect();
+    assert_eq!(kept_of("0,0,1;63,63,1", &backwards.join(";")).len(), 126);
+}
+
+#[test]
+fn wrong_cuts_are_noticed() {
+    let job = nine_tiles(&[("0,0,1;1,1,1", &format!("{SQUARE};{TAIL}"))]);
+    let job = read(job.as_bytes(), AMPLE).unwrap();
+    let right = plan(&job);
+    assert_eq!(right.layers, [[1, 1, 0, 0, 0, 0]]);
+    let noticed = |layers: [u8; 6]| {
+        let wrong = Plan { layers: vec![layers.to_vec()], ..right.clone() };
+        let by_brute = brute::check(&job, &wrong.order, &layers, &Returned::default()).is_err();
+        (check::check(&job, &wrong).is_err(), by_brute)
+    };
+    assert_eq!(noticed([1, 1, 0, 0, 0, 0]), (false, false));
+    assert_eq!(noticed([0, 0, 1, 1, 0, 0]), (true, true)); // the other half of the ring
+    assert_eq!(noticed([1, 1, 1, 0, 0, 0]), (true, true)); // a loose edge
+    assert_eq!(noticed([1, 1, 0, 0, 1, 0]), (true, true)); // a part of the tail
+    assert_eq!(noticed([1, 1, 1, 1, 0, 0]), (true, true)); // the ring
+    assert_eq!(noticed([1, 0, 0, 0, 0, 0]), (true, true)); // too few
 }
 
 #[test]
@@ -640,11 +784,12 @@ fn on_one_line_the_lower_number_wins() {
     assert_eq!(edges("1,0,e"), (8, 14));
     assert_eq!(edges(""), (8, 14));
 
-    // a ring beats what is not reached; an edge twice is no ring
+    // a ring makes no difference to what is not reached; an edge twice is no ring
     let four =
         |edges: &str| refused(&text([3, 3, 2], [1; 3], &[("0,0,0,0,0,0", "0,0,0,0,0,0"); 2], &[("0,0,1", edges)]));
-    assert_eq!(four("1,1,e;1,1,n;2,1,n;1,2,e"), (7, 14));
+    assert_eq!(four("1,1,e;1,1,n;2,1,n;1,2,e"), (8, 14));
     assert_eq!(four("1,1,e;1,1,n;2,1,n;1,2,e;1,1,e"), (6, 14));
+    assert_eq!(four("0,0,n;0,1,e;1,1,e;1,1,n;2,1,n;1,2,e"), (0, 0));
     assert_eq!(four("1,1,e;1,1,n;2,1,n"), (8, 14));
     assert_eq!(four("0,0,n;0,1,e;1,1,e;1,1,n;2,1,n"), (0, 0));
 

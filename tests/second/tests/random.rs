@@ -1,8 +1,9 @@
 //! Drawn jobs, checked; the run of the program `second self`, shorter and with every kind and damage.
 
 use second::calls::{answer, held, Second};
+use second::cut::cut;
 use second::gen::{draw, write, Damage, Kind, DAMAGES, KINDS};
-use second::job::{read, Grid, Job, Lengths, Net, Pin, TEXT_LIMIT};
+use second::job::{read, Grid, Job, Lengths, Net, Pin, NO_LONGER, TEXT_LIMIT};
 use second::plan::{excess, plan};
 use second::run::{Summary, BRUTE_MOST_HAND_OUTS};
 use second::{brute, check};
@@ -14,32 +15,40 @@ fn a_run() {
         summary.add(&Second, seed).unwrap();
     }
     println!("{summary}");
-    assert!(summary.refused.iter().all(|count| *count > 0), "every refusal occurs");
+    for (number, count) in summary.refused.iter().enumerate() {
+        assert_eq!(*count > 0, number != NO_LONGER, "every refusal occurs but one: {number}");
+    }
     assert!(summary.brute > 100 && summary.with_directions > 50 && summary.with_many_tracks > 30);
     assert!(summary.with_low_lines > 60 && summary.with_ldof > 30 && summary.hand_outs > 300);
+    assert!(
+        summary.with_rings > 50 && summary.brute_with_rings > 30 && summary.with_tails > 200 && summary.emptied > 60
+    );
 }
 
 #[test]
 fn tiny_jobs_by_brute_force() {
     let (mut with_ties, mut with_overflow, mut three_branches, mut two_limits, mut many_tracks) = (0, 0, 0, 0, 0);
-    let (mut some_go_without, mut some_do_not, mut along) = (0, 0, 0);
+    let (mut some_go_without, mut some_do_not, mut along, mut rings, mut rings_with_overflow) = (0, 0, 0, 0, 0);
     for seed in 0..400 {
         let drawn = draw(seed, Some(Kind::Tiny), Some(Damage::None));
         let lent = drawn.job.need();
         let plan = answer(&drawn.text, lent).unwrap();
         let returned = held(&Second, &drawn.text, lent, &Ok(plan.clone()), seed).unwrap();
         brute::check(&drawn.job, &plan.order, &plan.layers.concat(), &returned).unwrap();
-        brute::directives(&drawn.job, &excess(&drawn.job), plan.ldof, BRUTE_MOST_HAND_OUTS).unwrap();
+        let cut = cut(&drawn.job);
+        brute::directives(&cut, &excess(&cut), plan.ldof, BRUTE_MOST_HAND_OUTS).unwrap();
+        rings += usize::from(cut != drawn.job);
+        rings_with_overflow += usize::from(cut != drawn.job && plan.total_overflow > 0);
         let ldof = plan.ldof.unwrap_or(0);
         let high = |net: &Net| if net.low > Some(1) { net.edges.len() as u64 } else { 0 };
         some_go_without += usize::from(ldof > 0);
-        some_do_not += usize::from(ldof < drawn.job.nets.iter().map(high).sum());
+        some_do_not += usize::from(ldof < cut.nets.iter().map(high).sum());
         along += usize::from(ldof > 0 && drawn.job.dirs.is_some());
         with_ties += usize::from(plan.order.windows(2).any(|pair| pair[0].score == pair[1].score));
         with_overflow += usize::from(plan.total_overflow > 0);
-        let walks = drawn.job.nets.iter().map(|net| second::plan::walk(drawn.job.grid, net));
+        let walks = cut.nets.iter().map(|net| second::plan::walk(drawn.job.grid, net));
         three_branches += usize::from(walks.flatten().any(|step| step.branches.len() == 3));
-        let limits = second::plan::flat(&drawn.job).limits;
+        let limits = second::plan::flat(&cut).limits;
         two_limits += usize::from(limits.east != limits.north && limits.east.min(limits.north) > 0);
         let above_255 = drawn.job.capacity.iter().flatten().any(|tracks| *tracks > 255);
         many_tracks += usize::from(above_255 && plan.total_overflow > 0);
@@ -49,6 +58,7 @@ fn tiny_jobs_by_brute_force() {
         "{with_ties} {with_overflow} {three_branches} {two_limits} {many_tracks}"
     );
     assert!(some_go_without > 80 && some_do_not > 60 && along > 30, "{some_go_without} {some_do_not} {along}");
+    assert!(rings > 100 && rings_with_overflow > 50, "{rings} {rings_with_overflow}");
 }
 
 /// Two tiles, these tracks on the layers of the edge between, and so many nets that want each layer and up.

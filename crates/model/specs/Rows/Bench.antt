@@ -14,9 +14,9 @@ abbrev pub orderOf : List (ℕ × ℕ) → List Entry
 orderOf [] = []
 orderOf (e ∷ es) = record { net = e .0; low = 1; score = e .1 } ∷ orderOf es
 
--- an accepted job: its order list, its plan, its three numbers, its print
+-- an accepted job: its order list, the layers of its entries, its three numbers, its print
 abbrev pub shows : List (ℕ × ℕ) → List (List ℕ) → ℕ → ℕ → ℕ → String → Outcome
-shows es ys v t m text = accepted (record { order = orderOf es; plan = ys; vias = v; total = t; maximum = m; text = bytes text })
+shows es ys v t m text = accepted (record { order = orderOf es; layers = ys; vias = v; total = t; maximum = m; text = bytes text })
 
 abbrev pub row : String → Outcome → Row Outcome
 row text result = outcome programLent (bytes text) gives result
@@ -103,14 +103,16 @@ c9 =
     ("order=1,2,3\nnet=1\nvias=0\nlayers=1\nnet=2\nvias=0\nlayers=1\nnet=3\nvias=1\nlayers=2\n"
     then "total_vias=1\ntotal_overflow=3\nmax_overflow=2\n"))
 
--- C10: four edges round a square; and any three of them, with a pin in each tile
+-- C10: four edges round a square, with a pin in each tile, the last of which is dropped (document 02, S-6); and any three of them
 abbrev square : String → String
 square edges =
     "width=2\nheight=2\nlayers=2\nalpha=1\nbeta=1\ngamma=0\neast=1,1\nnorth=1,1\neast=1,1\nnorth=1,1\nnets=1\n"
     then "net=1\npins=0,0,1;1,0,1;0,1,1;1,1,1\nedges=" then edges then "\n"
 
 abbrev c10 : Row Outcome
-c10 = row (square "0,0,e;0,0,n;1,0,n;0,1,e") (refusal 7 14)
+c10 =
+    row (square "0,0,e;0,0,n;1,0,n;0,1,e")
+    (shows ((1, 4333) ∷ []) ((1 ∷ 1 ∷ 1 ∷ 0 ∷ []) ∷ []) 0 0 0 "order=1\nnet=1\nvias=0\nlayers=1,1,1,0\ntotal_vias=0\ntotal_overflow=0\nmax_overflow=0\n")
 
 abbrev three : String → Row Outcome
 three edges =

@@ -124,9 +124,9 @@ abbrev pub thirteenRows : List (Row (ℕ × ℕ))
 thirteenRows =
     (on enough (oneNet "pins=0,0,1;1,0,2" "edges=0,0,e") gives (0, 0)) ∷ (on enough (oneNet "pins=0,0,1" "edges=") gives (0, 0))
     ∷ (on enough (oneNet "pins=0,0,1;0,1,1" "edges=0,0,n") gives (13, 15)) ∷ (on enough (oneNet "pins=0,0,1" "edges=0,0,e;1,0,n") gives (13, 15))
-    -- 3, 6, 7 and 8 before it
+    -- 3, 6 and 8 before it; and it is judged before rings are cut
     ∷ (on enough (oneNet "pins=0,0,1" "edges=0,0,n;0,1,n") gives (3, 15)) ∷ (on enough (oneNet "pins=0,0,1" "edges=0,0,n;0,0,n") gives (6, 15))
-    ∷ (on enough (oneNet "pins=0,0,1" "edges=0,0,n;0,0,e;1,0,n;0,1,e") gives (7, 15)) ∷ (on enough (oneNet "pins=0,0,1;2,0,1" "edges=0,0,n") gives (8, 15))
+    ∷ (on enough (oneNet "pins=0,0,1" "edges=0,0,n;0,0,e;1,0,n;0,1,e") gives (13, 15)) ∷ (on enough (oneNet "pins=0,0,1;2,0,1" "edges=0,0,n") gives (8, 15))
     -- before 11, also on the last line; and before what stands on a later line
     ∷ (on (lent 234 1 0 none) (oneNet "pins=0,0,1" "edges=0,0,n") gives (13, 15)) ∷ (on (lent 234 1 0 none) (oneNet "pins=0,0,1" "edges=0,0,e") gives (11, 15))
     ∷ (on enough (eastward ("nets=2" ∷ "net=1" ∷ "pins=0,0,1" ∷ "edges=0,0,n" ∷ "net=7" ∷ [])) gives (13, 15))
@@ -149,7 +149,7 @@ abbrev pin : ℕ → ℕ → Pin
 pin t l = record { tile = t; layer = l }
 
 abbrev netWith : List Pin → List ℕ → Net
-netWith ps es = record { low = none; pins = ps; edges = es }
+netWith ps es = record { low = none; pins = ps; entries = es; edges = es }
 
 abbrev jobWith : ℕ → ℕ → ℕ → Option (List ℕ) → List (List ℕ) → List Net → Job
 jobWith W H K ds cs ns = record { width = W; height = H; layers = K; dirs = ds; alpha = 1; beta = 1; gamma = 0; capacities = cs; nets = ns }

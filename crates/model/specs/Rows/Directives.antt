@@ -108,7 +108,7 @@ excessRows =
 
 -- W = 2, H = 1, K = 3 with 2, 1 and 1 tracks; five nets on its edge: `low` 3, 3, 2, 1, and none
 abbrev netLow : Option ℕ → List ℕ → Net
-netLow l es = record { low = l; pins = record { tile = 0; layer = 1 } ∷ []; edges = es }
+netLow l es = record { low = l; pins = record { tile = 0; layer = 1 } ∷ []; entries = es; edges = es }
 
 abbrev five : Job
 five = record {
@@ -156,7 +156,7 @@ entriesOf [] = []
 entriesOf (e ∷ es) = record { net = e .0; low = e .1; score = e .2 } ∷ entriesOf es
 
 abbrev shown : List (ℕ × ℕ × ℕ) → List (List ℕ) → ℕ → ℕ → ℕ → String → Outcome
-shown es ys v t m text = accepted (record { order = entriesOf es; plan = ys; vias = v; total = t; maximum = m; text = bytes text })
+shown es ys v t m text = accepted (record { order = entriesOf es; layers = ys; vias = v; total = t; maximum = m; text = bytes text })
 
 -- C1 with the lines `low` of its nets
 abbrev c1With : String → String → String

@@ -233,21 +233,21 @@ edgeRows =
     ∷ (edges "edges=0,0,n;3,0,n" gives (3, 14)) ∷ (edges "edges=99999,0,e" gives (3, 14)) ∷ (edges "edges=0,99999,n" gives (3, 14))
     -- "same edge twice on `edges`": 6
     ∷ (edges "edges=0,0,n;0,0,n" gives (6, 14)) ∷ (edges "edges=0,0,n;0,0,e;0,0,n" gives (6, 14)) ∷ (edges "edges=0,0,n;0,0,e;0,0,e" gives (6, 14))
-    -- "the net's edges contain a ring": 7
-    ∷ (edges "edges=0,0,n;0,0,e;1,0,n;0,1,e" gives (7, 14)) ∷ (edges "edges=0,0,n;0,0,e;1,0,e;0,1,e;1,1,e;2,0,n" gives (7, 14))
-    ∷ (edges "edges=0,0,n;0,0,e;1,0,e;2,0,n;1,0,n;1,1,e" gives (7, 14)) ∷ (edges "edges=0,0,e;1,0,n;0,1,e" gives (0, 14))
-    -- "no ring, but a pin or edge not reached from the first pin's tile along the edges": 8
+    -- document 02, S-6: "Refusal 7 never occurs from now on"
+    ∷ (edges "edges=0,0,n;0,0,e;1,0,n;0,1,e" gives (0, 14)) ∷ (edges "edges=0,0,n;0,0,e;1,0,e;0,1,e;1,1,e;2,0,n" gives (0, 14))
+    ∷ (edges "edges=0,0,n;0,0,e;1,0,e;2,0,n;1,0,n;1,1,e" gives (0, 14)) ∷ (edges "edges=0,0,e;1,0,n;0,1,e" gives (0, 14))
+    -- "a pin or edge not reached from the first pin's tile along the edges": 8, also where there is a ring
     ∷ (edges "edges=" gives (8, 14)) ∷ (edges "edges=0,0,e" gives (8, 14)) ∷ (edges "edges=0,1,e" gives (8, 14)) ∷ (edges "edges=0,0,n;1,0,e" gives (8, 14))
     ∷ (edges "edges=1,0,n;0,0,n" gives (8, 14)) ∷ (edges "edges=0,0,e;0,1,e" gives (8, 14))
-    -- "On one line the lower number wins.": 2 before 3, 2 before 6, 3 before 6, 6 before 7, 6 before 8, 7 before 8
+    -- "On one line the lower number wins.": 2 before 3, 2 before 6, 3 before 6, 6 before 8; where the second would close a ring too
     ∷ (edges "edges=2,0,e;0,0" gives (2, 14)) ∷ (edges "edges=0,0,n;0,0,n;" gives (2, 14)) ∷ (edges "edges=0,0,n;0,0,n;2,0,e" gives (3, 14))
     ∷ (edges "edges=0,0,n;0,0,e;1,0,n;0,1,e;0,0,n" gives (6, 14)) ∷ (edges "edges=1,0,e;1,0,e" gives (6, 14))
-    ∷ (edges "edges=1,0,n;1,0,e;2,0,n;1,1,e" gives (7, 14))
+    ∷ (edges "edges=1,0,n;1,0,e;2,0,n;1,1,e" gives (8, 14))
     -- the same in a whole text; "the first fault decides"
     ∷ (upTo 14 "edges=0,0" gives (2, 14)) ∷ (upTo 14 "edges=0,0,e;1,0,e;2,0,e" gives (3, 14)) ∷ (upTo 14 "edges=0,0,e;0,0,e" gives (6, 14))
-    ∷ (upTo 14 "edges=0,0,e;1,0,e;2,0,n;1,0,n;1,1,e" gives (7, 14)) ∷ (upTo 14 "edges=0,0,e" gives (8, 14)) ∷ (at 13 "pins=2,1,1;0,1,1" gives (8, 14))
+    ∷ (upTo 14 "edges=0,0,e;1,0,e;2,0,n;1,0,n;1,1,e" gives (2, 15)) ∷ (upTo 14 "edges=0,0,e" gives (8, 14)) ∷ (at 13 "pins=2,1,1;0,1,1" gives (8, 14))
     ∷ (at 13 "pins=0,1,1;2,1,1" gives (8, 14)) ∷ (at 13 "pins=1,1,1" gives (8, 14)) ∷ (upTo 17 "edges=0,0,n;" gives (2, 17))
-    ∷ (upTo 17 "edges=0,0,n;0,1,n" gives (3, 17)) ∷ (upTo 17 "edges=0,0,n;0,0,n" gives (6, 17)) ∷ (upTo 17 "edges=0,0,n;0,0,e;1,0,n;0,1,e" gives (7, 17))
+    ∷ (upTo 17 "edges=0,0,n;0,1,n" gives (3, 17)) ∷ (upTo 17 "edges=0,0,n;0,0,n" gives (6, 17)) ∷ (upTo 17 "edges=0,0,n;0,0,e;1,0,n;0,1,e" gives (0, 0))
     ∷ (upTo 17 "edges=" gives (8, 17)) ∷ (verdict ample (textOf (take 13 sample ++ ("edges=" ∷ "net=x" ∷ []))) gives (8, 14)) ∷ []
 
 -- a net without edges: its pins stand in one tile

@@ -9,7 +9,7 @@ use Rattle.model.specs.Demand3.{choiceAt}
 use Rattle.model.specs.Job.{Job}
 use Rattle.model.specs.Layering.{IsChoice, IsLayering}
 use Rattle.model.specs.Overflow.{totalOverflow, maxOverflow}
-use Rattle.model.specs.Plan.{plan, totalVias}
+use Rattle.model.specs.Plan.{plan, answered, totalVias}
 use Rattle.model.specs.Print.{printed}
 use Rattle.model.specs.Score.{order}
 
@@ -48,7 +48,7 @@ abbrev pub filled : Job → Buffers → Buffers
 filled j b = record {
   working = replicate (length (b .working)) 0;
   order = order j ++ drop (length (order j)) (b .order);
-  answer = stretches (plan j) ++ drop (length (stretches (plan j))) (b .answer);
+  answer = stretches (answered (j .nets) (plan j)) ++ drop (length (stretches (answered (j .nets) (plan j)))) (b .answer);
 }
 
 abbrev pub acceptedPlan : Job → Buffers → Planned

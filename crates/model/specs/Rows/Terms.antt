@@ -22,7 +22,7 @@ abbrev pin : ℕ → ℕ → Pin
 pin t l = record { tile = t; layer = l }
 
 abbrev netWith : List Pin → List ℕ → Net
-netWith ps es = record { low = none; pins = ps; edges = es }
+netWith ps es = record { low = none; pins = ps; entries = es; edges = es }
 
 -- the entry of a net without a line `low`
 abbrev pub entry : ℕ → ℕ → Entry

@@ -3,7 +3,7 @@
 use mathlib.Core.List.{List, [], _∷_}
 use Prim.Native.Nat.{ℕ, _≤_}
 use Rattle.model.specs.Demand3.{turns, netAt, choiceAt, choiceVias, orderIn, planIn}
-use Rattle.model.specs.Job.{Job, layersOf, netEdges}
+use Rattle.model.specs.Job.{Job, layersOf}
 use Rattle.model.specs.Layering.{IsChoice, IsLayering}
 use Rattle.model.specs.Rows.Row.{Row, _gives_}
 use Rattle.model.specs.Rows.Terms.{mixed, entry}

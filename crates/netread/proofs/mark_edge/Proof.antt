@@ -27,7 +27,7 @@ mark-ways-requires c κs =
       r .0,
       (
         (
-          r .1 .0 .0,
+          omega (arith, r .1 .0 .0),
           t .ensures .1,
           there-in (x .g) (r .0) (x .e .x) (x .e .y) (x .e .third) (r .1 .0 .3) (r .1 .0 .4) (t .result) (t .ensures .0) (o .result) (o .ensures),
           r .1 .0 .3,

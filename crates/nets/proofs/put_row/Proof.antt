@@ -1,5 +1,6 @@
 -- `put_row` meets its contract: five numbers are stored one after the other, and each place is still in the table (`Stores.antt`).
 -- Assumes nothing.
+use Prim.Native.Nat.{_+_, _*_}
 use native.Mathlib.Omega.{arith}
 use borrow.Author.Needs.{needs}
 use Rattle.nets.proofs.Stores.{still-one, still-two, still-three, still-four, row-is}
@@ -30,7 +31,7 @@ returns : tie.Need-returns
 returns c =
     let r = p (e (n (f c))) in
     let x = z r .args in
-    row-is (x .table .now) (x .row .i) _ _ _ _ _ (x .pins .from) (x .edges .from) (x .pins .tiles) (x .row .first) (x .edges .entries) (r .pins-column .ensures .0) (e (n (f c)) .edges-column .ensures .0)
+    row-is (x .table .now) (x .row .i) _ _ _ _ _ (x .pins .from) (x .edges .from) (x .pins .tiles) (x .row .first) (x .edges .entries + 65536 * x .dropped) (r .pins-column .ensures .0) (e (n (f c)) .edges-column .ensures .0)
     (n (f c) .tiles-column .ensures .0) (f c .first-column .ensures .0) (c .count-column .ensures .0)
 
 pub put-row-spec : {M : Type 1} → statement M
@@ -52,7 +53,7 @@ put-row-spec =
     let x = z r .args in
     still-three (x .table .now) (c .first-column .result) (omega (arith, c .first-column .ensures .1, z r .pre .0 .1))
     (r .pins-column .result) (x .pins .from) (e (n c) .edges-column .result) (x .edges .from) (n c .tiles-column .result) (x .pins .tiles) 0 0)
-    (λ c. search needs) (λ c κs. search needs) (λ c. search needs)
+    (λ c. search needs) (λ c. search needs) (λ c. search needs) (λ c κs. search needs) (λ c. search needs)
     (λ c. let r = p (e (n (f c))) in
     let x = z r .args in
     still-four (x .table .now) (c .count-column .result) (omega (arith, c .count-column .ensures .1, z r .pre .0 .1))

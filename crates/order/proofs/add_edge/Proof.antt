@@ -1,7 +1,7 @@
 -- `add_edge` meets its contract.
 -- Assumes nothing.
 use borrow.Author.Needs.{needs}
-use Rattle.order.proofs.Sums.{added}
+use Rattle.order.specs.Sums.{added}
 use Rattle.order.proofs.add_edge.Statement.{statement}
 use Rattle.order.proofs.add_edge.Tie as tie
 

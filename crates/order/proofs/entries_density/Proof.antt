@@ -1,66 +1,95 @@
--- `entries_density` meets its contract. The loop's invariant: some edges of the line are summed, and the others stand at i.
+-- `entries_density` meets its contract. The loop's invariant: the entries before the place at hand are summed.
 -- Assumes nothing.
-use Prim.Native.Nat.{_-_}
+use mathlib.Core.List.{List, [], _∷_, _++_}
+use Prim.Native.Nat.{ℕ, _-_}
 use native.Mathlib.Omega.{arith}
 use lib.ListN.{length}
-use Rattle.order.proofs.EdgeTurns.{Summing, summing-start, next-short, next-asked, summing-last, summing-more, next-place}
+use Rattle.known.specs.Taken.{Taken, taken-start, taken-short, taken-inside, taken-room, taken-last, taken-more, taken-place}
+use Rattle.scan.specs.Pins.{triple}
+use Rattle.ways.specs.Entry.{edgeOf, placed}
+use Rattle.order.specs.Sums.{Sums, sums-none, sums-more, sums-job}
 use Rattle.order.proofs.entries_density.Statement.{statement}
 use Rattle.order.proofs.entries_density.Tie as tie
 
 abbrev Inv-loop : tie.InvT-loop
-Inv-loop s at w g i₀ v₀ i v = Summing s g at i w v
+Inv-loop s at w g i₀ v₀ i v = Taken s g at i (λ es. Sums g w es v)
 
 abbrev μ-loop : tie.MeasureT-loop
 μ-loop s at w g i₀ v₀ i v = length s - i
 
 loop-holds : tie.Need-loop-holds Inv-loop μ-loop
 loop-holds c =
-    let x = c .before .before .args in
-    let r = c .before .before .pre in
-    summing-start (x .s .now) (x .g) (x .at) (x .w .now) (r .0) (r .1 .1 .0) (r .1 .1 .1)
+    let z = c .before .before in
+    let x = z .args in
+    taken-start (x .s .now) (x .g) (x .at) (z .pre .1 .1 .0) (z .pre .1 .1 .1) (λ es. Sums (x .g) (x .w .now) es (record { demand = 0; capacity = 0 })) (sums-none (x .g) (x .w .now))
+
+-- the entry at hand
+module _ (l : tie.At-loop Inv-loop μ-loop) where
+  abbrev start : tie.Start Inv-loop μ-loop
+  start = l .before .before .before
+
+  abbrev P : List ℕ → Type 0
+  P es = Sums (start .args .g) (start .args .w .now) es (l .loop .v)
 
 edge-at-requires : tie.Need-edge-at-requires Inv-loop μ-loop
 edge-at-requires c κs =
-    let x = c .before .before .before .args in
-    let r = c .before .before .before .pre in
-    next-short (x .s .now) (x .g) (x .at) (x .w .now) (r .0) (r .1 .1 .0) (c .loop .i) (c .loop .v) (c .loop .inv)
+    let z = start c in
+    taken-short (z .args .s .now) (z .args .g) (z .args .at) (z .pre .1 .1 .0) (z .pre .0) (c .loop .i) (P c) (c .loop .inv)
 
 add-entry-requires : tie.Need-add-entry-requires Inv-loop μ-loop
 add-entry-requires c κs =
-    let l = c .before in
-    let x = l .before .before .before .args in
-    let r = l .before .before .before .pre in
-    let a = next-asked (x .s .now) (x .g) (x .at) (x .w .now) (r .0) (r .1 .1 .0) (l .loop .i) (l .loop .v) (l .loop .inv) (c .edge-at .result) (c .edge-at .ensures) in
-    (r .0, (r .1 .0, a .0, a .1, a .2, a .3))
+    let l : tie.At-loop Inv-loop μ-loop = c .before in
+    let z = start l in
+    let x = z .args in
+    let k = taken-inside (x .s .now) (x .g) (x .at) (z .pre .1 .1 .0) (z .pre .0) (l .loop .i) (P l) (l .loop .inv) (c .edge-at .result) (c .edge-at .ensures) in
+    let few = taken-room (x .s .now) (x .g) (x .at) (z .pre .1 .1 .0) (z .pre .0) (l .loop .i) (P l) (l .loop .inv) (c .edge-at .result) (c .edge-at .ensures) in
+    let sums = l .loop .inv .holds in
+    (z .pre .0, (z .pre .1 .0, omega (arith, few, z .pre .0 .e-most, sums .demand-most), omega (arith, few, z .pre .0 .e-most, sums .capacity-most), k .0, k .1))
+
+-- it is summed
+module _ (d : tie.After-add-entry Inv-loop μ-loop) where
+  abbrev read : tie.After-edge-at Inv-loop μ-loop
+  read = d .before
+
+  abbrev at : tie.At-loop Inv-loop μ-loop
+  at = read .before
+
+  abbrev Q : List ℕ → Type 0
+  Q es = Sums (start at .args .g) (start at .args .w .now) es (d .add-entry .result)
+
+  one-more : let k = read .edge-at .result in Q (at .loop .inv .so-far ++ (edgeOf (start at .args .g) (triple (k .x) (k .y) (k .third)) ∷ []))
+  one-more =
+      let z = start at in
+      let x = z .args in
+      let n = read .edge-at .result in
+      let k = taken-inside (x .s .now) (x .g) (x .at) (z .pre .1 .1 .0) (z .pre .0) (at .loop .i) (P at) (at .loop .inv) n (read .edge-at .ensures) in
+      sums-more (x .g) (x .w .now) (at .loop .inv .so-far) (at .loop .v) (at .loop .inv .holds) (edgeOf (x .g) (triple (n .x) (n .y) (n .third)))
+      (placed (x .g) (z .pre .0) (triple (n .x) (n .y) (n .third)) (k .1) (k .0) .known) (d .add-entry .result) (d .add-entry .ensures)
 
 returns : tie.Need-returns Inv-loop μ-loop
 returns c =
-    let m = c .before in
-    let e = m .before in
-    let l = e .before in
-    let x = l .before .before .before .args in
-    let r = l .before .before .before .pre in
-    summing-last (x .s .now) (x .g) (x .at) (x .w .now) (r .0) (r .1 .1 .0) (l .loop .i) (l .loop .v) (l .loop .inv) (e .edge-at .result) (e .edge-at .ensures)
-    (m .add-entry .result) (m .add-entry .ensures) (c .if1 .taken)
+    let d : tie.After-add-entry Inv-loop μ-loop = c .before in
+    let z = start (at d) in
+    let x = z .args in
+    λ j n there. sums-job (x .g) (x .w .now) (n .entries) (d .add-entry .result)
+    (taken-last (x .s .now) (x .g) (x .at) (z .pre .1 .1 .0) (z .pre .0) (at d .loop .i) (P (at d)) (at d .loop .inv) (read d .edge-at .result) (read d .edge-at .ensures) (c .if1 .taken)
+    (Q d) (one-more d) n there) j
 
 loop-less : tie.Need-loop-less Inv-loop μ-loop
 loop-less c =
-    let e = c .before .before in
-    let l = e .before in
-    let x = l .before .before .before .args in
-    let r = l .before .before .before .pre in
-    let t = next-place (x .s .now) (x .g) (x .at) (x .w .now) (r .0) (r .1 .1 .0) (l .loop .i) (l .loop .v) (l .loop .inv) (e .edge-at .result) (e .edge-at .ensures) (c .if1 .left) in
+    let d : tie.After-add-entry Inv-loop μ-loop = c .before in
+    let z = start (at d) in
+    let x = z .args in
+    let t = taken-place (x .s .now) (x .g) (x .at) (z .pre .1 .1 .0) (z .pre .0) (at d .loop .i) (P (at d)) (at d .loop .inv) (read d .edge-at .result) (read d .edge-at .ensures) (c .if1 .left) in
     omega (arith, t .0, t .1)
 
 loop-again : tie.Need-loop-again Inv-loop μ-loop
 loop-again c =
-    let m = c .before in
-    let e = m .before in
-    let l = e .before in
-    let x = l .before .before .before .args in
-    let r = l .before .before .before .pre in
-    summing-more (x .s .now) (x .g) (x .at) (x .w .now) (r .0) (r .1 .1 .0) (l .loop .i) (l .loop .v) (l .loop .inv) (e .edge-at .result) (e .edge-at .ensures)
-    (m .add-entry .result) (m .add-entry .ensures) (c .if1 .left)
+    let d : tie.After-add-entry Inv-loop μ-loop = c .before in
+    let z = start (at d) in
+    let x = z .args in
+    taken-more (x .s .now) (x .g) (x .at) (z .pre .1 .1 .0) (z .pre .0) (at d .loop .i) (P (at d)) (at d .loop .inv) (read d .edge-at .result) (read d .edge-at .ensures) (c .if1 .left)
+    (Q d) (one-more d)
 
 pub entries-density-spec : {M : Type 1} → statement M
 entries-density-spec = tie.close (tie.spec Inv-loop μ-loop loop-holds edge-at-requires add-entry-requires returns loop-less loop-again)

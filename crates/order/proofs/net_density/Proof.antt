@@ -1,9 +1,12 @@
 -- `net_density` meets its contract.
 -- Assumes nothing.
-use mathlib.Core.Path.{sym}
+use mathlib.Core.List.{List, []}
+use mathlib.Core.Path.{sym, subst}
+use Prim.Native.Nat.{ℕ}
 use borrow.Author.Needs.{needs}
 use Rattle.net.specs.Left.{edges-place, edges-none}
-use Rattle.order.proofs.Sums.{sums-none, sums-job}
+use Rattle.order.specs.Density.{DensityOf}
+use Rattle.order.specs.Sums.{sums-none, sums-job}
 use Rattle.order.proofs.net_density.Statement.{statement}
 use Rattle.order.proofs.net_density.Tie as tie
 
@@ -16,7 +19,9 @@ shared-slice-read-if1 c =
 returns : tie.Need-returns
 returns c =
     let x = c .before .before .before .before .args in
-    λ j n k. sums-job (x .g) (x .w .now) _ _ (sums-none (x .g) (x .w .now)) j n (sym (edges-none (x .s .now) (x .g .w) (x .g .h) (x .at) n k (c .if1 .taken)))
+    λ j n k d e.
+    subst (λ (es : List ℕ). DensityOf j es (record { demand = 0; capacity = 0 })) (sym (edges-none (x .s .now) (x .g .w) (x .g .h) (x .at) n k (c .if1 .taken)))
+    (sums-job (x .g) (x .w .now) [] (record { demand = 0; capacity = 0 }) (sums-none (x .g) (x .w .now)) j d e)
 
 pub net-density-spec : {M : Type 1} → statement M
 net-density-spec = tie.close (tie.spec shared-slice-read-if1 returns (λ c κs. search needs) (λ c. search needs))

@@ -80,13 +80,13 @@ module _ (c : tie.After-index Inv-loop μ-loop) where
         turn (x .s .now) (x .job .frame .shape) (x .job .nets) (limitAt (x .job .frame .limits)) (x .w .now) (x .table .now) (length (x .answer .now)) lent j start
         (y .w) (y .table) (x .answer .now) (y .answer) (y .vias) (y .k) (y .inv .5 lent j start) (inside .loop-test .taken)
 
-    its-row : RowTurn (z .args .s .now) (z .args .job .frame .shape) (z .args .job .nets + 1 + l .loop .k) (limitAt (z .args .job .frame .limits)) (l .loop .w) (l .loop .table) (length (l .loop .answer)) (c .index .result - 1) its-turn
+    its-row : RowTurn (z .args .s .now) (z .args .job .frame .shape) (4 * z .args .job .nets + 1 + l .loop .k) (limitAt (z .args .job .frame .limits)) (l .loop .w) (l .loop .table) (length (l .loop .answer)) (c .index .result - 1) its-turn
     its-row =
         let x = z .args in
         let y = l .loop in
         row-turn (x .s .now) (x .job .frame .shape) (x .job .nets) (limitAt (x .job .frame .limits)) (x .w .now) (x .table .now) (length (x .answer .now)) lent j start
         (y .w) (y .table) (x .answer .now) (y .answer) (y .vias) (y .k) (y .inv .5 lent j start) (inside .loop-test .taken)
-        (c .index .result - 1) (x .job .nets + 1 + y .k) (ap (λ (q : ℕ). q - 1) told) refl (y .inv .2)
+        (c .index .result - 1) (4 * x .job .nets + 1 + y .k) (ap (λ (q : ℕ). q - 1) told) refl (y .inv .2)
 
 sub-i : tie.Need-sub-i Inv-loop μ-loop
 sub-i c = let o = z c .pre .1 .1 .1 in counted c (o .lent) (o .job) (o .start)
@@ -127,7 +127,7 @@ module _ (t : tie.After-turn-of Inv-loop μ-loop) where
       subst (λ (q : List ℕ). Mid (x .s .now) (x .job .frame .shape) (x .job .nets) (r .last .1 .0) q (x .answer .now) (r .last .1 .1 .1 .0) (y .vias + r .result) (y .k + 1) lent j (start .accepted)) (sym (r .ensures .1 .0))
       (mid-next (x .s .now) (x .job .frame .shape) (x .job .nets) (limitAt (x .job .frame .limits)) (x .w .now) (x .table .now) (length (x .answer .now)) lent j start
       (y .w) (y .table) (x .answer .now) (y .answer) (y .vias) (y .k) (y .inv .5 lent j start) (inside i .loop-test .taken)
-      (i .index .result - 1) (x .job .nets + 1 + y .k) (ap (λ (q : ℕ). q - 1) (told i)) refl (r .last .1 .0) (r .last .1 .1 .1 .0) (r .result)
+      (i .index .result - 1) (4 * x .job .nets + 1 + y .k) (ap (λ (q : ℕ). q - 1) (told i)) refl (r .last .1 .0) (r .last .1 .1 .1 .0) (r .result)
       (r .ensures .0 (its-turn i lent j start) (its-row i lent j start)))
 
 -- the same, seen from the end of the loop's turn
@@ -153,7 +153,7 @@ returns c =
     let y = c .before .loop in (
       λ lent j start.
           mid-end (x .s .now) (x .job .frame .shape) (x .job .nets) (limitAt (x .job .frame .limits)) (x .w .now) (x .table .now) (length (x .answer .now)) lent j start
-          (y .w) (y .table) (x .answer .now) (y .answer) (y .vias) (y .k) (y .inv .5 lent j start) (c .loop-test .left) (y .inv .2),
+          (y .w) (y .table) (x .answer .now) (y .answer) (y .vias) (y .k) (y .inv .5 lent j start) (first (c .before) .pre .1 .0) (c .loop-test .left) (y .inv .2),
       (y .inv .0, y .inv .1, y .inv .2),
     )
 
@@ -172,7 +172,7 @@ place-all-spec =
     ))
     (λ c κs. search needs) (λ c. search needs) (λ c. search needs) (λ c. search needs)
     sub-i
-    (λ c. search needs) (λ c. search needs) (λ c. search needs)
+    (λ c. search needs) (λ c. search needs) (λ c. search needs) (λ c. search needs)
     turn-of-requires
     (λ c. search needs)
     (λ c. let q = l (i (had c)) in omega (arith, q .loop .inv .4, q .loop .inv .3, first q .pre .1 .1 .0 .1))

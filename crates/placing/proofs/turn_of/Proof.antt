@@ -20,18 +20,18 @@ module _ (b : tie.After-row-of) where
   Here u = let x = z .args in RowTurn (x .s .now) (x .turn .frame .shape) (x .turn .stamp) (limitAt (x .turn .frame .limits)) (x .w .now) (x .table .now) (length (x .answer .now)) (x .turn .net) u
 
   at-row : (u : Turn) → Here u
-      → TurnAt (z .args .s .now) (b .row-of .result .pins) (b .row-of .result .edges) (z .args .turn .frame .shape) (z .args .turn .stamp) (limitAt (z .args .turn .frame .limits)) (z .args .w .now)
+      → TurnAt (z .args .s .now) (b .row-of .result .pins) (b .row-of .result .edges) (b .row-of .result .dropped) (z .args .turn .frame .shape) (z .args .turn .stamp) (limitAt (z .args .turn .frame .limits)) (z .args .w .now)
       (length (take (b .row-of .result .first + b .row-of .result .count - b .row-of .result .first) (drop (b .row-of .result .first) (z .args .answer .now)))) u
   at-row u k =
       let x = z .args in
-      turn-at (x .s .now) (x .turn .frame .shape) (x .turn .stamp) (limitAt (x .turn .frame .limits)) (x .w .now) (x .table .now) (x .answer .now) (x .turn .net) u k (b .row-of .result) (b .row-of .ensures .0)
+      turn-at (x .s .now) (x .turn .frame .shape) (x .turn .stamp) (limitAt (x .turn .frame .limits)) (x .w .now) (x .table .now) (x .answer .now) (x .turn .net) u (z .pre .1 .0) k (b .row-of .result) (b .row-of .ensures .0)
 
 part-take-turn-end : tie.Need-part-take-turn-end
 part-take-turn-end c =
     let b : tie.After-row-of = c .before .before in
     let x = z b .args in
     let o = z b .pre .1 .1 .1 in
-    lent-inside (x .s .now) (x .turn .frame .shape) (x .turn .stamp) (limitAt (x .turn .frame .limits)) (x .w .now) (x .table .now) (x .answer .now) (x .turn .net) (o .turn) (o .at) (b .row-of .result) (b .row-of .ensures .0)
+    lent-inside (x .s .now) (x .turn .frame .shape) (x .turn .stamp) (limitAt (x .turn .frame .limits)) (x .w .now) (x .table .now) (x .answer .now) (x .turn .net) (o .turn) (z b .pre .1 .0) (o .at) (b .row-of .result) (b .row-of .ensures .0)
 
 take-turn-requires : tie.Need-take-turn-requires
 take-turn-requires c κs =
@@ -51,13 +51,13 @@ returns c =
     let w = t .last .1 .1 .0 in
     let out = t .last .1 .1 .1 .1 .0 in (
       λ u k.
-          row-done (x .s .now) (x .turn .frame .shape) (x .turn .stamp) (limitAt (x .turn .frame .limits)) (x .w .now) (x .table .now) (x .answer .now) (x .turn .net) u k (r .result) (r .ensures .0) w out (t .result)
+          row-done (x .s .now) (x .turn .frame .shape) (x .turn .stamp) (limitAt (x .turn .frame .limits)) (x .w .now) (x .table .now) (x .answer .now) (x .turn .net) u (z b .pre .1 .0) k (r .result) (r .ensures .0) w out (t .result)
           (t .ensures .0 u (at-row b u k)),
       (
         ap (λ (k : ℕ). set (x .table .now) k (t .result)) (c .vias-column .ensures .0),
         (
           t .ensures .1,
-          answer-long (x .s .now) (x .turn .frame .shape) (x .turn .stamp) (limitAt (x .turn .frame .limits)) (x .w .now) (x .table .now) (x .answer .now) (x .turn .net) (o .turn) (o .at) (r .result) (r .ensures .0) w out (t .result)
+          answer-long (x .s .now) (x .turn .frame .shape) (x .turn .stamp) (limitAt (x .turn .frame .limits)) (x .w .now) (x .table .now) (x .answer .now) (x .turn .net) (o .turn) (z b .pre .1 .0) (o .at) (r .result) (r .ensures .0) w out (t .result)
               (t .ensures .0 (o .turn) (at-row b (o .turn) (o .at))),
         ),
       ),

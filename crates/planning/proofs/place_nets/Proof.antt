@@ -68,7 +68,7 @@ module _ (t : tie.After-close-layers) where
   abbrev w₂ : List ℕ
   w₂ = t .close-layers .last .0
 
-  starts : (lent : Lent) (j : Job) → Turned (first v .args .s .now) (first v .args .h) (first v .args .w .now) (first v .args .table .now) (length (first v .args .answer .now)) lent j
+  starts : (lent : Lent) (j : Job) → Turned 4 (first v .args .s .now) (first v .args .h) (first v .args .w .now) (first v .args .table .now) (length (first v .args .answer .now)) lent j
       → Start (first v .args .s .now) (first v .args .h .shape) (first v .args .h .nets) (limitAt (l .limits-of .result)) w₂ (first v .args .table .now) (length (first v .args .answer .now)) lent j
   starts lent j at =
       let x = first v .args in

@@ -3,7 +3,7 @@
 use mathlib.Core.Path.{refl, sym, subst}
 use lib.ListN.{length}
 use borrow.Author.Needs.{needs}
-use Rattle.planning.specs.Closing.{ToClose, PlanClosed}
+use Rattle.planning.specs.Closing.{turned-to-place, ToClose, PlanClosed}
 use Rattle.planning.specs.declared.Opened.{Opened}
 use Rattle.planning.specs.declared.Planned.the-variants.{Plan, Refused as NotPlanned}
 use Rattle.planning.proofs.plan_opened.Statement.{statement}
@@ -14,7 +14,8 @@ place-nets-requires c κs =
     let o = c .before .before .before .before in
     let z = o .before .before .before .before .before .before in
     let x = z .args in
-    subst (ToClose (x .s .now) (x .w .now) (x .table .now) (length (x .answer .now))) (o .o2 .given .1) (z .pre)
+    let k = subst (ToClose (x .s .now) (x .w .now) (x .table .now) (length (x .answer .now))) (o .o2 .given .1) (z .pre) in
+    record { lent = k .lent; job = k .job; turned = turned-to-place (x .s .now) (o .o2 .given .0 .0) (x .w .now) (x .table .now) (length (x .answer .now)) (k .lent) (k .job) (k .turned) }
 
 returns : tie.Need-returns
 returns c =
@@ -28,7 +29,7 @@ returns-2 c =
     let o = p .before .before .before .before .before in
     let x = o .before .before .before .before .before .before .args in (
       subst (λ (v : Opened). PlanClosed (x .s .now) (x .w .now) (x .table .now) (x .answer .now) (p .place-nets .last .1 .1 .1 .1 .0) v (Plan (p .place-nets .result))) (sym (o .o2 .given .1))
-          (record { totals = p .place-nets .result; is = refl; table′ = p .place-nets .last .1 .1 .1 .0; made = p .place-nets .ensures .0 }),
+          (record { totals = p .place-nets .result; is = refl; table′ = p .place-nets .last .1 .1 .1 .0; made = λ lent j at. p .place-nets .ensures .0 lent j (turned-to-place (x .s .now) (o .o2 .given .0 .0) (x .w .now) (x .table .now) (length (x .answer .now)) lent j at) }),
       p .place-nets .ensures .1,
     )
 

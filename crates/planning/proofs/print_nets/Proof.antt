@@ -1,8 +1,8 @@
--- `print_nets` meets its contract: the last line is found, which leaves the working numbers as they were; the plan is made, and its text is written from the net
--- table and the answer list (`Steps.antt`).
+-- `print_nets` meets its contract: the last line is found, which changes marks and links alone; the plan is made, and its text is written from the net table and
+-- the answer list (`Steps.antt`).
 -- Assumes nothing.
 use mathlib.Core.List.{List}
-use mathlib.Core.Path.{_≡_, refl, sym, ap, _∙_, subst}
+use mathlib.Core.Path.{_≡_, refl, _∙_}
 use native.Mathlib.Omega.{arith}
 use Prim.Native.Nat.{ℕ}
 use lib.ListN.{length}
@@ -11,7 +11,7 @@ use Rattle.model.specs.Job.{Job}
 use Rattle.model.specs.Print.{ldofLine}
 use Rattle.model.specs.Read.{Lent}
 use Rattle.print.specs.Texts.{ldofText}
-use Rattle.planning.specs.Closing.{Turned, PlanMade}
+use Rattle.planning.specs.Closing.{Turned, turned-remarked, PlanMade}
 use Rattle.planning.proofs.Steps.{directives-asked, directives-some, rows-there, text-fits, print-made}
 use Rattle.planning.proofs.print_nets.Statement.{statement}
 use Rattle.planning.proofs.print_nets.Tie as tie
@@ -24,12 +24,11 @@ module _ (c : tie.After-ldof-of) where
   abbrev w′ : List ℕ
   w′ = c .ldof-of .last .1 .0
 
-  -- as if nothing had been done to the working numbers
-  still : (lent : Lent) (j : Job) → Turned (z .args .s .now) (z .args .h) (z .args .w .now) (z .args .table .now) (length (z .args .answer .now)) lent j
-      → Turned (z .args .s .now) (z .args .h) w′ (z .args .table .now) (length (z .args .answer .now)) lent j
-  still lent j = subst (λ (w : List ℕ). Turned (z .args .s .now) (z .args .h) w (z .args .table .now) (length (z .args .answer .now)) lent j) (sym (c .ldof-of .ensures .1))
+  still : (lent : Lent) (j : Job) → Turned 3 (z .args .s .now) (z .args .h) (z .args .w .now) (z .args .table .now) (length (z .args .answer .now)) lent j
+      → Turned 4 (z .args .s .now) (z .args .h) w′ (z .args .table .now) (length (z .args .answer .now)) lent j
+  still lent j at = turned-remarked 3 4 (z .args .s .now) (z .args .h) (z .args .w .now) w′ (z .args .table .now) (length (z .args .answer .now)) lent j at (c .ldof-of .ensures .1)
 
-  last-told : (lent : Lent) (j : Job) → Turned (z .args .s .now) (z .args .h) (z .args .w .now) (z .args .table .now) (length (z .args .answer .now)) lent j → ldofText (c .ldof-of .result) ≡ ldofLine j
+  last-told : (lent : Lent) (j : Job) → Turned 3 (z .args .s .now) (z .args .h) (z .args .w .now) (z .args .table .now) (length (z .args .answer .now)) lent j → ldofText (c .ldof-of .result) ≡ ldofLine j
   last-told lent j at =
       let x = z .args in
       c .ldof-of .ensures .0 lent j (directives-asked (x .s .now) (x .h) (x .w .now) (x .table .now) (length (x .answer .now)) lent j at) (at .given .capacities) (at .given .count)
@@ -39,7 +38,7 @@ module _ (c : tie.After-place-nets) where
   abbrev l : tie.After-ldof-of
   l = c .before .before .before .before .before .before
 
-  made : (lent : Lent) (j : Job) → Turned (z l .args .s .now) (z l .args .h) (z l .args .w .now) (z l .args .table .now) (length (z l .args .answer .now)) lent j
+  made : (lent : Lent) (j : Job) → Turned 3 (z l .args .s .now) (z l .args .h) (z l .args .w .now) (z l .args .table .now) (length (z l .args .answer .now)) lent j
       → PlanMade j (z l .args .answer .now) (c .place-nets .last .1 .1 .1 .1 .0) (c .place-nets .last .1 .1 .1 .0) (c .place-nets .result)
   made lent j at = c .place-nets .ensures .0 lent j (still l lent j at)
 
@@ -52,7 +51,7 @@ ldof-of-requires c κs =
     let x = y .args in
     let o = y .pre in
     let at = o .turned in
-    (at .given .shaped, (omega (arith, at .given .room), directives-some (x .s .now) (x .h) (x .w .now) (x .table .now) (length (x .answer .now)) (o .lent) (o .job) at))
+    (at .given .shaped, ((omega (arith, at .given .room), at .given .unmarked), directives-some (x .s .now) (x .h) (x .w .now) (x .table .now) (length (x .answer .now)) (o .lent) (o .job) at))
 
 place-nets-requires : tie.Need-place-nets-requires
 place-nets-requires c κs =
@@ -88,7 +87,7 @@ returns c =
             print-made (x .s .now) (x .h) (x .w .now) (x .table .now) (x .answer .now) (p .place-nets .last .1 .1 .1 .1 .0) (p .place-nets .last .1 .1 .1 .0) (p .place-nets .result) lent j at (made p lent j at)
             (k .ldof-of .result) (last-told k lent j at) (x .out .now) room (q .put-plan .last .0) (q .put-plan .result) (q .put-plan .ensures .0) (q .put-plan .ensures .1);
       },
-      p .place-nets .ensures .1 ∙ ap length (k .ldof-of .ensures .1),
+      p .place-nets .ensures .1 ∙ k .ldof-of .ensures .1 .out .long,
     )
 
 pub print-nets-spec : {M : Type 1} → statement M
@@ -96,5 +95,5 @@ print-nets-spec =
     tie.close
     (tie.spec
     ldof-of-requires place-nets-requires put-plan-requires
-    (λ c. let p = placed (c .before .before .before) in p .place-nets .ensures .1 ∙ ap length (l p .ldof-of .ensures .1))
+    (λ c. let p = placed (c .before .before .before) in p .place-nets .ensures .1 ∙ l p .ldof-of .ensures .1 .out .long)
     (λ c. search needs) (λ c. search needs) (λ c. search needs) returns)

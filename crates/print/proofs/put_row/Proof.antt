@@ -13,8 +13,8 @@ put-net-requires c κs =
     let k = v .before in
     let f = k .before in
     let s = f .before .before .before .before in
-    row-room (s .args .table .now) (s .args .answer .now) (s .args .i) (f .first-of .result) (k .count-of .result) (v .vias-of .result)
-    (f .first-of .ensures) (k .count-of .ensures) (v .vias-of .ensures) (s .args .at) (length (s .args .b .now)) (s .pre .1)
+    row-room (s .args .table .now) (s .args .answer .now) (s .args .i) (f .first-of .result) (k .entries-in .result) (v .vias-of .result)
+    (f .first-of .ensures) (k .entries-in .ensures .0) (v .vias-of .ensures) (s .args .at) (length (s .args .b .now)) (s .pre .1)
 
 returns : tie.Need-returns
 returns c =
@@ -23,14 +23,14 @@ returns c =
     let f = k .before in
     let s = f .before .before .before .before in
     wrote-as (c .before .before .put-net .ensures)
-    (row-is (s .args .table .now) (s .args .answer .now) (s .args .i) (f .first-of .result) (k .count-of .result) (v .vias-of .result)
-    (f .first-of .ensures) (k .count-of .ensures) (v .vias-of .ensures))
+    (row-is (s .args .table .now) (s .args .answer .now) (s .args .i) (f .first-of .result) (k .entries-in .result) (v .vias-of .result)
+    (f .first-of .ensures) (k .entries-in .ensures .0) (v .vias-of .ensures))
 
 pub put-row-spec : {M : Type 1} → statement M
 put-row-spec =
     tie.close
     (tie.spec
-    (λ c κs. search needs) (λ c. search needs) (λ c κs. search needs) (λ c. search needs) (λ c κs. search needs)
+    (λ c κs. search needs) (λ c. search needs) (λ c κs. search needs) (λ c κs. search needs)
     (λ c. search needs) (λ c. search needs) (λ c. search needs) (λ c. search needs) (λ c. search needs)
     put-net-requires
     (λ c. search needs)

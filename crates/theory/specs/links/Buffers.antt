@@ -8,7 +8,7 @@ use lib.Dec.{leb→le}
 use lib.ListN.{length, take, drop, replicate, length-append, length-drop, length-replicate}
 use lib.Seq.{take-at, drop-at}
 use Rattle.model.specs.Job.{Job, netCount, entryCount}
-use Rattle.model.specs.Plan.{plan}
+use Rattle.model.specs.Plan.{plan, answered}
 use Rattle.model.specs.Print.{printed}
 use Rattle.model.specs.Read.{Lent, Place, Result, refused, found, read, printNeed}
 use Rattle.model.specs.Score.{order}
@@ -39,7 +39,7 @@ left-lengths lent text b o a = go (read lent text) refl
         record {
           working = length-replicate (length (b .working)) 0;
           order = overwrite-length (order j) (b .order) (omega (arith, order-long lent j acc, acc .order-fits));
-          answer = overwrite-length (stretches (plan j)) (b .answer) (omega (arith, plan-long lent j acc, acc .answer-fits));
+          answer = overwrite-length (stretches (answered (j .nets) (plan j))) (b .answer) (omega (arith, plan-long lent j acc, acc .answer-fits));
         }
 
 -- Plan keeps the lengths of its buffers

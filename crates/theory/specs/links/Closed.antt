@@ -27,7 +27,7 @@ use Rattle.theory.specs.congestion.Edge.{put-other}
 use Rattle.theory.specs.congestion.Loads.{mark-one, mark-none}
 use Rattle.theory.specs.links.Layers.{in-layers}
 use Rattle.theory.specs.links.Planned.{Midway}
-use Rattle.theory.specs.links.Tests.{is-true, is-false, cond-both}
+use Rattle.theory.specs.congestion.Tests.{is-true, is-false, cond-both}
 use Rattle.theory.specs.links.Reading.{Closed, EachClosed, Accepted}
 
 -- ---- capacities

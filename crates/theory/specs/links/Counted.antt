@@ -16,7 +16,7 @@ use Rattle.theory.specs.walk.Stops.{occurs-append}
 use Rattle.theory.specs.walk.NetVias.{pinTiles, netTiles, reached?}
 use Rattle.theory.specs.walk.Union.{topOf, Falling, Holds, holds-step, holds-joined}
 use Rattle.theory.specs.walk.Parts.{parts, Marked, Touches, parts-start, parts-touch, parts-merge, parts-one, one-parts, marked-holds}
-use Rattle.theory.specs.links.Tests.{is-true, test-eq}
+use Rattle.theory.specs.congestion.Tests.{is-true, test-eq}
 use Rattle.theory.specs.links.Reach.{loOf, hiOf, joined-is}
 
 -- `ts` are the tiles touched so far, `es` the edges whose ends are joined, and n is the count

@@ -13,7 +13,7 @@ use Rattle.model.specs.Limits.{mostDigits}
 use Rattle.model.specs.Lists.{all}
 use Rattle.model.specs.Text.{isDigit, isNumber, valueFrom, number, digitsIn, decimal}
 use Rattle.theory.specs.congestion.Sums.{eqb-true, eqb-false, lt-or-ge}
-use Rattle.theory.specs.links.Tests.{is-true, is-false, and-both, both-and, cond-both}
+use Rattle.theory.specs.congestion.Tests.{is-true, is-false, and-both, both-and, cond-both}
 use Rattle.theory.specs.links.Reading.{all-append}
 use Rattle.theory.specs.links.Room.{tens, decimal-few}
 

@@ -16,7 +16,7 @@ use Rattle.model.specs.Overflow.{flatOverflow, MO, groupMost, limit, layerOverf
 use Rattle.theory.specs.congestion.Sums.{most, keep}
 use Rattle.theory.specs.congestion.Edge.{ceilDiv, ceil-le, le-ceil, ceil-zero}
 use Rattle.theory.specs.congestion.Base.{length-upFrom}
-use Rattle.theory.specs.links.Tests.{all-at}
+use Rattle.theory.specs.congestion.Tests.{all-at}
 use Rattle.theory.specs.links.Reading.{LettersOk}
 
 -- ---- two groups at most

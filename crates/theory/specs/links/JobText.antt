@@ -13,7 +13,7 @@ use Rattle.model.specs.Grid.{eastCount, northCount}
 use Rattle.model.specs.Job.{Net, Job, runs, entryCount}
 use Rattle.model.specs.Limits.{leastSide, mostSide, leastLayers, mostLayers, mostWeight, mostNets, mostText}
 use Rattle.model.specs.Text.{behind}
-use Rattle.model.specs.Read.{Place, Result, Reading, next, give, need, ifThere, optional, lettersLine, dirsLine, ranged, capacityLine, capacityLines, Sizes, netLine, lowLine, pinsLine, edgesLine, netLines, nets, Lent, workingNeed, printNeed, printFits, jobIn, read}
+use Rattle.model.specs.Read.{Place, Result, Reading, next, give, need, ifThere, optional, lettersLine, dirsLine, ranged, capacityLine, capacityLines, Sizes, netLine, lowLine, pinsLine, edgesLine, netWith, netLines, nets, Lent, workingNeed, printNeed, printFits, jobIn, read}
 use Rattle.theory.specs.links.Chain.{Rows, no-more, row, Kind, opening, lineOf, Chain, done, reads, may, tests, ends, where-begun, run}
 use Rattle.theory.specs.links.Words.{leb-fails, and-fails}
 use Rattle.theory.specs.links.Kinds.{rangedKind, dirsKind, lowKind, capacityKind, netKind, pinsKind, edgesKind, next-next, ranged-is, low-is, letters-is, capacity-is, net-is, pins-is, edges-is}
@@ -74,9 +74,9 @@ module _ {A : Type 0} where
       reads (capacityKind "north" (northCount (z .width) (z .height)) (runs (z .dirs) 1 l)) (λ north.
       layersChain z (suc l) m (λ above. k ((east ++ north) ∷ above))))
 
-  -- the lines `pins` and `edges` of a net, whose lowest wanted layer is told
+  -- the lines `pins` and `edges` of a net, whose lowest wanted layer is told, and what it keeps of its entries
   abbrev pub treeChain : Sizes → Option ℕ → (Net → Chain A) → Chain A
-  treeChain z low k = reads (pinsKind z) (λ pins. reads (edgesKind z pins) (λ edges. k (record { low = low; pins = pins; edges = edges })))
+  treeChain z low k = reads (pinsKind z) (λ pins. reads (edgesKind z pins) (λ entries. k (netWith z low pins entries)))
 
   -- "for each net `net`, `pins`, `edges`", and "a line `low` right after `net`" where it stands: m nets, from number i on
   abbrev pub netsChain : Sizes → ℕ → ℕ → (List Net → Chain A) → Chain A
@@ -201,7 +201,7 @@ module _ {A : Type 0} (z : Sizes) where
       ∙ same-next (pins-is z o) (λ pins r.
       next-next (edgesLine z pins r) _ _
       ∙ same-next (edges-is z pins r) (λ edges s.
-      next-next (nets z (suc i) m s) _ _ ∙ nets-run (suc i) m (λ others. k (record { low = low; pins = pins; edges = edges } ∷ others)) s)))
+      next-next (nets z (suc i) m s) _ _ ∙ nets-run (suc i) m (λ others. k (netWith z low pins edges ∷ others)) s)))
       ∙ optional-run (lowKind (z .layers)) (ranged "low" 1 (z .layers)) (λ low. treeChain z low (λ n. netsChain z (suc i) m (λ others. k (n ∷ others)))) (low-is (z .layers)) q)
 
 job-run : (lent : Lent) (p : Place) → jobIn lent p ≡ run (jobChain lent) p

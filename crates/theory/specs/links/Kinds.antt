@@ -15,10 +15,10 @@ use Rattle.model.specs.Job.{Pin, groupIn, runs}
 use Rattle.model.specs.Limits.{mostCapacity}
 use Rattle.model.specs.Lists.{upFrom, all, twice}
 use Rattle.model.specs.Text.{number, numbers}
-use Rattle.model.specs.Tree.{ring, joined}
+use Rattle.model.specs.Tree.{joined}
 use Rattle.model.specs.Read.{Place, Result, refused, found, Reading, next, form, need, give, line, numberLine, ranged, letters, lettersLine, capacityLine, Sizes, Triple, pinEntries, edgeEntries, pinInside, edgeInside, pinAt, edgeAt, samePin, netLine, pinsLine, hasLayer, edgesLine}
 use Rattle.theory.specs.links.Chain.{no-more, row, Kind, lineOf}
-use Rattle.theory.specs.links.Words.{leb-fails, eqb-fails, or-fails, range-fails, Some, all-fails, NotAny, any-fails, PinInside, pin-fails, EdgeInside, edge-fails, PinTwice, pins-twice, EdgeTwice, edges-twice, HasRing, ring-fails, NotReached, joined-fails}
+use Rattle.theory.specs.links.Words.{leb-fails, eqb-fails, or-fails, range-fails, Some, all-fails, NotAny, any-fails, PinInside, pin-fails, EdgeInside, edge-fails, PinTwice, pins-twice, EdgeTwice, edges-twice, NotReached, joined-fails}
 
 -- ---- the table
 
@@ -124,8 +124,8 @@ pinsKind z = record {
   result = pinsOf z;
 }
 
--- the line `edges`: 2, 3, "6, the line: same edge twice on `edges`", "7, the `edges` line: the net's edges contain a ring", "8, the `edges` line: no ring, but
--- a pin or edge not reached from the first pin's tile along the edges", "13, on an `edges` line, after 8 and before 11, an edge whose direction has no layer"
+-- the line `edges`: 2, 3, "6, the line: same edge twice on `edges`", 8, "a pin or edge not reached from the first pin's tile along the edges", "13, on an
+-- `edges` line, after 8 and before 11, an edge whose direction has no layer"
 abbrev pub edgesKind : Sizes → List Pin → Kind (List Triple) (List ℕ)
 edgesKind z pins = record {
   key = "edges";
@@ -137,12 +137,10 @@ edgesKind z pins = record {
       row 3 (all (edgeInside W H) es) (EdgesOut z es)
       (λ h. all-fails (edgeInside W H) (λ e. EdgeInside W H e → ⊥) (edge-fails W H) es)
       (row 6 (not (twice eqb (edgesOf z es))) (EdgeTwice (edgesOf z es)) (λ h. edges-twice (edgesOf z es))
-      (row 7 (not (ring W H (edgesOf z es))) (HasRing W H (edgesOf z es))
-      (λ (h : (Unit {0} × (EdgesOut z es → ⊥)) × (EdgeTwice (edgesOf z es) → ⊥)). ring-fails W H (edgesOf z es) (h .1))
       (row 8 (joined W H pins (edgesOf z es)) (NotReached W H pins (edgesOf z es)) (λ h. joined-fails W H pins (edgesOf z es))
       (row 13 (all (hasLayer z) (edgesOf z es)) (Some (NoLayer z) (edgesOf z es))
       (λ h. all-fails (hasLayer z) (NoLayer z) (λ e. any-fails (runs (z .dirs) (groupIn (z .dirs) (eastCount W H) e)) (upFrom 1 (z .layers))) (edgesOf z es))
-      no-more))));
+      no-more)));
   result = edgesOf z;
 }
 

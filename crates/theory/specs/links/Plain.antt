@@ -21,11 +21,11 @@ use Rattle.model.specs.Overflow.{over, flatDemand, flatCapacity, flatOverflow, 
 use Rattle.model.specs.Plan.{placed, legal}
 use Rattle.model.specs.Read.{Place, found, Reading, form, need, give, line, _>>=_, _>>_, dirsLine, capacityLine, edgeEntries, edgeInside, edgeAt, Sizes, hasLayer, edgesLine}
 use Rattle.model.specs.Text.{bytes, behind, numbers}
-use Rattle.model.specs.Tree.{ring, joined}
+use Rattle.model.specs.Tree.{joined}
 use Rattle.theory.specs.congestion.Sums.{sum, most, keep, keep-all, keep-none, eqb-false}
 use Rattle.theory.specs.congestion.Base.{length-upFrom}
 use Rattle.theory.specs.congestion.Edge.{ceilDiv, ceil-none}
-use Rattle.theory.specs.links.Tests.{is-true, in-all}
+use Rattle.theory.specs.congestion.Tests.{is-true, in-all}
 
 -- ---- the terms
 
@@ -136,7 +136,6 @@ edgesWith W H pins t = do
   need 3 (all (edgeInside W H) es)
   let edges = map (edgeAt W H) es
   need 6 (not (twice eqb edges))
-  need 7 (not (ring W H edges))
   need 8 (joined W H pins edges)
   need 13 (t edges)
   give edges
@@ -154,7 +153,6 @@ pub plain-edges-line : (W H K : ℕ) (pins : List Pin) (p : Place) → 1 ≤ K
       need 3 (all (edgeInside W H) es)
       let edges = map (edgeAt W H) es
       need 6 (not (twice eqb edges))
-      need 7 (not (ring W H edges))
       need 8 (joined W H pins edges)
       give edges) p
 unfolding edgesLine

@@ -19,7 +19,7 @@ use Rattle.theory.specs.congestion.Sums.{same, occurs, In, sum-bound, sa
 use Rattle.theory.specs.congestion.Base.{length-upFrom, in-upFrom}
 use Rattle.theory.specs.walk.Stops.{less-length}
 use Rattle.theory.specs.walk.NetVias.{pinTiles}
-use Rattle.theory.specs.links.Tests.{twice-once}
+use Rattle.theory.specs.congestion.Tests.{twice-once}
 use Rattle.theory.specs.links.Nets.{NetOk, EachPin}
 use Rattle.theory.specs.links.Reading.{Accepted}
 use Rattle.theory.specs.links.Planned.{net-ok}
@@ -28,7 +28,7 @@ use Rattle.theory.specs.links.Limits.{demands-small, flat-capacity-small
 
 -- ---- numbers below a size, none of them twice
 
-few-numbers : (size : ℕ) (xs : List ℕ) → ((a : ℕ) → In a xs → a < size) → ((a : ℕ) → occurs a xs ≤ 1) → length xs ≤ size
+pub few-numbers : (size : ℕ) (xs : List ℕ) → ((a : ℕ) → In a xs → a < size) → ((a : ℕ) → occurs a xs ≤ 1) → length xs ≤ size
 few-numbers size xs below once = omega (arith, less-length xs (upFrom 0 size) each, length-upFrom 0 size)
   where
     each : (a : ℕ) → occurs a xs ≤ occurs a (upFrom 0 size)

@@ -14,11 +14,11 @@ use lib.Seq.{append-snoc}
 use Rattle.model.specs.Grid.{eastCount, northCount}
 use Rattle.model.specs.Job.{Pin, Net, Job, runs, entryCount}
 use Rattle.model.specs.Limits.{leastSide, mostSide, leastLayers, mostLayers, mostWeight, mostNets, mostText}
-use Rattle.model.specs.Read.{Place, Result, refused, found, Sizes, Triple, Lent, read}
+use Rattle.model.specs.Read.{Place, Result, refused, found, Sizes, Triple, netWith, Lent, read}
 use Rattle.model.specs.Text.{behind}
 use Rattle.theory.specs.congestion.Sums.{same-cases}
 use Rattle.theory.specs.links.Chain.{First, Kind, opening, Stands, WrongForm, WrongLine, form-wrong, row-wrong, Chain, done, reads, may, tests, ends, refused-found, same-refusal, AtFault, Comes, begun, past-absent, comes-refused, Decided, then-line, then-there, then-tests, then-end, decided-refused, decided-found}
-use Rattle.theory.specs.links.Words.{Some, PinTwice, EdgeTwice, HasRing, NotReached}
+use Rattle.theory.specs.links.Words.{Some, PinTwice, EdgeTwice, NotReached}
 use Rattle.theory.specs.links.Kinds.{OutOfRange, CapacitiesOut, Nonzero, PinsOut, EdgesOut, NoLayer, pinsOf, edgesOf, rangedKind, dirsKind, lowKind, capacityKind, netKind, pinsKind, edgesKind}
 use Rattle.theory.specs.links.JobText.{one, start, optionLines, stackLine, capacitiesAt, headLines, linesTo, layersChain, treeChain, netsChain, bodyChain, endChain, jobOf, lines-snoc, RoomShort, neededBy, workingRow, orderRow, roomRow, textChain, read-is}
 
@@ -161,15 +161,14 @@ module _ (lent : Lent) (text : List ℕ) where
     edge-twice : (z : Sizes) (earlier : List Net) (low : Option ℕ) (pins : List Pin) (es : List Triple) → OfTree z earlier low → LineAt (edgesKind z pins) es (edgesAt z earlier low) → (EdgesOut z es → ⊥)
         → EdgeTwice (edgesOf z es) → l ≡ edgesAt z earlier low → EdgeTwiceAt l
 
-  -- "7, the `edges` line: the net's edges contain a ring"
-  pub data RingAt (l : ℕ) : Type 1 where
-    has-ring : (z : Sizes) (earlier : List Net) (low : Option ℕ) (pins : List Pin) (es : List Triple) → OfTree z earlier low → LineAt (edgesKind z pins) es (edgesAt z earlier low) → (EdgesOut z es → ⊥)
-        → (EdgeTwice (edgesOf z es) → ⊥) → HasRing (z .width) (z .height) (edgesOf z es) → l ≡ edgesAt z earlier low → RingAt l
+  -- row 7 has ended: "Refusal 7 never occurs from now on, and 8 no longer presumes that there is no ring" (document 02, S-6)
+  abbrev pub RingAt : ℕ → Type 1
+  RingAt l = Nothing
 
   -- "8, the `edges` line: no ring, but a pin or edge not reached from the first pin's tile along the edges"
   pub data ReachAt (l : ℕ) : Type 1 where
     not-reached : (z : Sizes) (earlier : List Net) (low : Option ℕ) (pins : List Pin) (es : List Triple) → OfTree z earlier low → LineAt (edgesKind z pins) es (edgesAt z earlier low) → (EdgesOut z es → ⊥)
-        → (EdgeTwice (edgesOf z es) → ⊥) → (HasRing (z .width) (z .height) (edgesOf z es) → ⊥) → NotReached (z .width) (z .height) pins (edgesOf z es) → l ≡ edgesAt z earlier low → ReachAt l
+        → (EdgeTwice (edgesOf z es) → ⊥) → NotReached (z .width) (z .height) pins (edgesOf z es) → l ≡ edgesAt z earlier low → ReachAt l
 
   -- "9, 3: fewer working numbers than needed", "right after line 3": the line read last is line 3, and line 4 where it begins `dirs=`
   pub data WorkingAt (l : ℕ) : Type 1 where
@@ -194,7 +193,7 @@ module _ (lent : Lent) (text : List ℕ) where
   -- "13, on an `edges` line, after 8 and before 11, an edge whose direction has no layer"
   pub data NoLayerAt (l : ℕ) : Type 1 where
     no-layer : (z : Sizes) (earlier : List Net) (low : Option ℕ) (pins : List Pin) (es : List Triple) → OfTree z earlier low → LineAt (edgesKind z pins) es (edgesAt z earlier low) → (EdgesOut z es → ⊥)
-        → (EdgeTwice (edgesOf z es) → ⊥) → (HasRing (z .width) (z .height) (edgesOf z es) → ⊥) → (NotReached (z .width) (z .height) pins (edgesOf z es) → ⊥)
+        → (EdgeTwice (edgesOf z es) → ⊥) → (NotReached (z .width) (z .height) pins (edgesOf z es) → ⊥)
         → Some (NoLayer z) (edgesOf z es) → l ≡ edgesAt z earlier low → NoLayerAt l
 
   -- the table: the rows of the numbers 1 to 13
@@ -251,10 +250,10 @@ module _ (lent : Lent) (text : List ℕ) where
   edge-refused l (edge-twice z earlier low pins es o d u w y) = on-line 6 l y (by-line 6 (edgesAt z earlier low) d (inr (u, inl (w, refl))))
 
   ring-refused : (l : ℕ) → RingAt l → Refused 7 l
-  ring-refused l (has-ring z earlier low pins es o d u v w y) = on-line 7 l y (by-line 7 (edgesAt z earlier low) d (inr (u, inr (v, inl (w, refl)))))
+  ring-refused l w = nothing w
 
   reach-refused : (l : ℕ) → ReachAt l → Refused 8 l
-  reach-refused l (not-reached z earlier low pins es o d u v x w y) = on-line 8 l y (by-line 8 (edgesAt z earlier low) d (inr (u, inr (v, inr (x, inl (w, refl))))))
+  reach-refused l (not-reached z earlier low pins es o d u v w y) = on-line 8 l y (by-line 8 (edgesAt z earlier low) d (inr (u, inr (v, inl (w, refl)))))
 
   working-refused : (l : ℕ) → WorkingAt l → Refused 9 l
   working-refused l (working-short z q a w y x) = by 9 l a (inl (w, refl), x ∙ sym y)
@@ -269,8 +268,8 @@ module _ (lent : Lent) (text : List ℕ) where
   closed-refused l (closed-layer z key size m way cs k d u v e w y) = by-line 12 l d (inr (λ h. h u, inr (v, inl ((e, w), refl))))
 
   no-layer-refused : (l : ℕ) → NoLayerAt l → Refused 13 l
-  no-layer-refused l (no-layer z earlier low pins es o d u v x y w a) =
-      on-line 13 l a (by-line 13 (edgesAt z earlier low) d (inr (u, inr (v, inr (x, inr (y, inl (w, refl)))))))
+  no-layer-refused l (no-layer z earlier low pins es o d u v x w a) =
+      on-line 13 l a (by-line 13 (edgesAt z earlier low) d (inr (u, inr (v, inr (x, inl (w, refl))))))
 
   table-refused : EachRow Refused table 1
   table-refused =
@@ -385,10 +384,9 @@ module _ (lent : Lent) (text : List ℕ) where
       told : (n : ℕ) (es : List Triple) → LineAt (edgesKind z pins) es (suc (q .line)) → First (edgesKind z pins .rows es) n → Why n (suc (q .line))
       told n es d (inl (w, e)) = because 3 n (suc (q .line)) e (edge-out z pins es d w)
       told n es d (inr (u, inl (w, e))) = because 6 n (suc (q .line)) e (edge-twice z earlier low pins es o (here es d) u w y)
-      told n es d (inr (u, inr (v, inl (w, e)))) = because 7 n (suc (q .line)) e (has-ring z earlier low pins es o (here es d) u v w y)
-      told n es d (inr (u, inr (v, inr (x, inl (w, e))))) = because 8 n (suc (q .line)) e (not-reached z earlier low pins es o (here es d) u v x w y)
-      told n es d (inr (u, inr (v, inr (x, inr (t, inl (w, e)))))) = because 13 n (suc (q .line)) e (no-layer z earlier low pins es o (here es d) u v x t w y)
-      told n es d (inr (u, inr (v, inr (x, inr (t, inr (b, w)))))) = absurd w
+      told n es d (inr (u, inr (v, inl (w, e)))) = because 8 n (suc (q .line)) e (not-reached z earlier low pins es o (here es d) u v w y)
+      told n es d (inr (u, inr (v, inr (x, inl (w, e))))) = because 13 n (suc (q .line)) e (no-layer z earlier low pins es o (here es d) u v x w y)
+      told n es d (inr (u, inr (v, inr (x, inr (t, w))))) = absurd w
 
   -- two lines for each layer: m of them, from layer l on
   layers-on : (z : Sizes) → Stack z → (l m : ℕ) {k : List (List ℕ) → Chain Job} {q : Place} → suc (q .line) ≡ capacitiesAt (z .dirs) l 0
@@ -411,10 +409,10 @@ module _ (lent : Lent) (text : List ℕ) where
         low-on (z .layers) a1 (λ low q2 e2 a2.
         pins-on z earlier low (tree low q2 a2) (omega arith) a2 (λ pins q3 e3 a3.
         edges-on z earlier low pins (tree low q2 a2) (omega arith) a3 (λ edges q4 e4 a4.
-        nets-on (earlier ++ (record { low = low; pins = pins; edges = edges } ∷ [])) left
-        (omega (arith, length-snoc earlier (record { low = low; pins = pins; edges = edges })))
-        (further (record { low = low; pins = pins; edges = edges }) q4 a4)
-        (omega (arith, lines-snoc earlier (record { low = low; pins = pins; edges = edges }))) k))))
+        nets-on (earlier ++ (netWith z low pins edges ∷ [])) left
+        (omega (arith, length-snoc earlier (netWith z low pins edges)))
+        (further (netWith z low pins edges) q4 a4)
+        (omega (arith, lines-snoc earlier (netWith z low pins edges))) k))))
       where
         net : OfNet z earlier
         net = record {
@@ -507,9 +505,12 @@ module _ (lent : Lent) (text : List ℕ) where
   pub six-iff : (l : ℕ) → (read lent text ≡ refused 6 l) ↔ EdgeTwiceAt l
   six-iff = refused-iff 6
 
-  -- "7, the `edges` line: the net's edges contain a ring"
+  -- "Refusal 7 never occurs from now on"
   pub seven-iff : (l : ℕ) → (read lent text ≡ refused 7 l) ↔ RingAt l
   seven-iff = refused-iff 7
+
+  pub never-seven : (l : ℕ) → read lent text ≡ refused 7 l → ⊥
+  never-seven l e = nothing (seven-iff l .0 e)
 
   -- "8, the `edges` line: no ring, but a pin or edge not reached from the first pin's tile along the edges"
   pub eight-iff : (l : ℕ) → (read lent text ≡ refused 8 l) ↔ ReachAt l

@@ -13,7 +13,7 @@ use Rattle.model.specs.Job.{Pin, Net, Job, netCount, tileCount, edgeCount, ends
 use Rattle.model.specs.Legal.{isLegal}
 use Rattle.model.specs.Lists.{upFrom, sum, most, keep, any}
 use Rattle.model.specs.Overflow.{over, demand, flatCapacity, ceilDiv, load, totalOverflow, maxOverflow}
-use Rattle.model.specs.Plan.{legal, layerOf, best, planFrom, plan, netVias, totalVias}
+use Rattle.model.specs.Plan.{legal, layerOf, best, planFrom, plan, answered, netVias, totalVias}
 use Rattle.model.specs.Print.{printLine, printNets, planLines, printed}
 use Rattle.model.specs.Score.{lengthTerm, pinTerm, densityTerm, differentTiles, score, Entry, goesFirst, insertEntry, sorted, scored, order}
 use Rattle.model.specs.Vias.{span, pinLayers, meets, edgeLayers, vias}
@@ -21,7 +21,7 @@ use Rattle.model.specs.Walk.{endTiles, netTiles, lowest, branches, walkFrom, wa
 
 -- a net without its line `low`
 abbrev pub unmark : Net → Net
-unmark n = record { low = none; pins = n .pins; edges = n .edges }
+unmark n = record { low = none; pins = n .pins; entries = n .entries; edges = n .edges }
 
 abbrev pub unmarked : Job → Job
 unmarked j = record {
@@ -172,10 +172,15 @@ module _ (j : Job) (es : List Entry) (ys : List (List ℕ)) where
   maximum-unmarked =
       ap (λ (ns : List (List ℕ)). most (λ e. most (λ l. over (capacity j e l) (load e l ns ys)) (layersOf j e)) (allEdges j)) (edges-unmarked j)
 
+  answered-unmarked : (ns : List Net) (zs : List (List ℕ)) → answered (map unmark ns) zs ≡ answered ns zs
+  answered-unmarked [] zs = refl
+  answered-unmarked (n ∷ ns) [] = refl
+  answered-unmarked (n ∷ ns) (z ∷ zs) = ap {B = List (List ℕ)} (λ r. map (layerOf (n .edges) z) (n .entries) ∷ r) (answered-unmarked ns zs)
+
   lines-unmarked : planLines (unmarked j) (map plainEntry es) ys ≡ planLines j es ys
   lines-unmarked = λ i.
       printLine "order" (turns-unmarked es i)
-      ++ printNets 1 (vias-unmarked j (j .nets) ys i) ys
+      ++ printNets 1 (vias-unmarked j (j .nets) ys i) (answered-unmarked (j .nets) ys i)
       ++ printLine "total_vias" (sum (λ v. v) (vias-unmarked j (j .nets) ys i) ∷ [])
       ++ printLine "total_overflow" (total-unmarked i ∷ [])
       ++ printLine "max_overflow" (maximum-unmarked i ∷ [])

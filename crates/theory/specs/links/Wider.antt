@@ -22,7 +22,7 @@ use Rattle.model.specs.Score.{order}
 use Rattle.model.specs.Text.{numbers}
 use Rattle.theory.specs.links.Chain.{refused-found}
 use Rattle.theory.specs.links.JobText.{behind-same}
-use Rattle.theory.specs.links.Tests.{is-true, all-in, in-all}
+use Rattle.theory.specs.congestion.Tests.{is-true, all-in, in-all}
 
 -- ---- the reading with the bound as a parameter
 

@@ -9,13 +9,12 @@ use native.Mathlib.Omega.{arith}
 use lib.Dec.{T, eqb, leb, ltb, eqb→eq, leb→le, le→leb, ltb→lt, lt→ltb}
 use Rattle.model.specs.Job.{Pin}
 use Rattle.model.specs.Lists.{all, any, twice}
-use Rattle.model.specs.Tree.{ring, joined}
+use Rattle.model.specs.Tree.{joined}
 use Rattle.model.specs.Read.{Triple, pinInside, edgeInside, samePin}
 use Rattle.theory.specs.congestion.Sums.{eqb-true, eqb-false, occurs}
-use Rattle.theory.specs.walk.Rings.{Ring}
-use Rattle.theory.specs.links.Tests.{is-true, is-false, and-both, both-and, twice-once}
+use Rattle.theory.specs.congestion.Tests.{is-true, is-false, and-both, both-and, twice-once}
 use Rattle.theory.specs.links.Reach.{loOf, hiOf}
-use Rattle.theory.specs.links.Means.{ring-means, Reached, joined-means}
+use Rattle.theory.specs.links.Means.{Reached, joined-means}
 
 -- ---- tests
 
@@ -157,15 +156,6 @@ edges-twice = twice-fails eqb (λ a b. a ≡ b) (λ a b. (λ e. eqb→eq a b (su
 
 not-twice : (es : List ℕ) → (EdgeTwice es → ⊥) → (e : ℕ) → occurs e es ≤ 1
 not-twice es h = twice-once es (is-false (twice eqb es) (λ t. h (edges-twice es .0 (ap not (is-true (twice eqb es) t)))))
-
--- "the net's edges contain a ring": a closed walk along them, none of them twice
-abbrev pub HasRing : ℕ → ℕ → List ℕ → Type 0
-HasRing W H es = Ring (loOf W H) (hiOf W H) es
-
-pub ring-fails : (W H : ℕ) (es : List ℕ) → (EdgeTwice es → ⊥) → (not (ring W H es) ≡ false) ↔ HasRing W H es
-ring-fails W H es o =
-    let a = not-fails (ring W H es) in let b = ring-means W H es (not-twice es o) in
-    (λ e. b .0 (a .0 e), λ h. a .1 (b .1 h))
 
 -- "a pin or edge not reached from the first pin's tile along the edges"
 abbrev pub NotReached : ℕ → ℕ → List Pin → List ℕ → Type 0

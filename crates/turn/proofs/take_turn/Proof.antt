@@ -22,7 +22,7 @@ module _ (a : tie.After-read-and-walk) where
   z = a .before .before .before .before .before .before
 
   abbrev At : Turn → Type 0
-  At u = TurnAt (z .args .s .now) (z .args .net .pins) (z .args .net .edges) (z .args .frame .shape) (z .args .net .stamp) (limitAt (z .args .frame .limits)) (z .args .w .now) (length (z .args .out .now)) u
+  At u = TurnAt (z .args .s .now) (z .args .net .pins) (z .args .net .edges) (z .args .net .dropped) (z .args .frame .shape) (z .args .net .stamp) (limitAt (z .args .frame .limits)) (z .args .w .now) (length (z .args .out .now)) u
 
   walked : (u : Turn) → At u → NetWalked (z .args .frame .shape) (z .args .net .stamp) (a .read-and-walk .result) (a .read-and-walk .last .1 .1 .0) u
   walked u t = a .read-and-walk .ensures .0 u (t .before)
@@ -82,7 +82,7 @@ returns c =
     let d = written c in (
       λ u t.
           let h = chosen (b d) u t in
-          record { placed = d .write-layers .ensures .0 u (z (a (b d)) .args .net .stamp) (h .0); vias-are = h .1 },
+          record { placed = d .write-layers .ensures .0 u (z (a (b d)) .args .net .stamp) (h .0) (t .count); vias-are = h .1 },
       kept d,
     )
 

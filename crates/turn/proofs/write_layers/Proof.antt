@@ -83,9 +83,9 @@ returns c =
     let x = z (p e) .args in
     let r = z (p e) .pre in
     let s = r .1 .1 in (
-      λ u stamp h.
+      λ u stamp h count.
           net-placed (x .g) (r .0) (x .n) (x .w .now) (r .1 .0) stamp u h (p e .put-chosen .last .0) (p e .put-chosen .ensures) (length (x .out .now))
-          (omega (arith, s .count, s .chosen .tiles, h .tiles)) (e .occupy-all .last .0) (c .before .before .before .before .before .before .put-answer .last .1 .1 .0)
+          count (e .occupy-all .last .0) (c .before .before .before .before .before .before .put-answer .last .1 .1 .0)
           (e .occupy-all .ensures) (c .before .before .before .before .before .before .put-answer .ensures),
       long e,
     )

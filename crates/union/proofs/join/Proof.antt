@@ -1,6 +1,6 @@
 -- `union::join` meets its contract.
 -- Assumes nothing.
-use mathlib.Core.Path.{_≡_}
+use mathlib.Core.Path.{_≡_, refl}
 use mathlib.Core.List.{List}
 use mathlib.Core.Bool.{false, true}
 use mathlib.Core.Logic.{_≢_}
@@ -34,9 +34,9 @@ module _ (k : tie.After-slice-known3) where
   one : p ≡ q → Merged (start .args .stamp) (start .args .a .now) (start .args .x) (start .args .y) words false
   one = merged-one (start .args .stamp) (start .args .a .now) (start .args .x) (start .args .y) (first .root .last .0) p words q (first .root .ensures) (k .before .before .root2 .ensures)
 
-  two : p ≢ q → (m v : ℕ) (d : List ℕ) → m ≡ max p q → v ≡ min p q → d ≡ set words m (start .args .stamp * stampUnit + v)
+  two : p ≢ q → (d : List ℕ) → d ≡ set words (max p q) (start .args .stamp * stampUnit + min p q)
       → Merged (start .args .stamp) (start .args .a .now) (start .args .x) (start .args .y) d true
-  two = merged-two (start .args .stamp) (start .args .a .now) (start .args .x) (start .args .y) (first .root .last .0) p words q (first .root .ensures) (k .before .before .root2 .ensures) (start .pre .1)
+  two ne d = merged-two (start .args .stamp) (start .args .a .now) (start .args .x) (start .args .y) (first .root .last .0) p words q (first .root .ensures) (k .before .before .root2 .ensures) (start .pre .1) ne (max p q) (min p q) d refl refl
 
 pub join-spec : {M : Type 1} → statement M
 join-spec =
@@ -45,8 +45,4 @@ join-spec =
     (λ c κs. search needs) (λ c κs. search needs) (λ c. search needs)
     (λ c. one (c .before) (c .if1 .taken))
     (λ c κs. search needs) (λ c. search needs)
-    (λ c. let e = c .before .before .before .before in
-    two (e .before .before) (e .before .if1 .left) (q (e .before .before)) (p (e .before .before)) (c .before .before .put .last .0) (omega (arith, e .if2 .taken)) (omega (arith, e .if2 .taken)) (c .before .before .put .ensures))
-    (λ c κs. search needs) (λ c. search needs)
-    (λ c. let e = c .before .before .before .before in
-    two (e .before .before) (e .before .if1 .left) (p (e .before .before)) (q (e .before .before)) (c .before .before .put2 .last .0) (omega (arith, e .if2 .left)) (omega (arith, e .if2 .left)) (c .before .before .put2 .ensures)))
+    (λ c. let e = c .before .before .before .before in two (e .before) (e .if1 .left) (c .before .before .link .last .0) (c .before .before .link .ensures)))

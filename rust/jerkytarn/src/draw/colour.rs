@@ -70,6 +70,17 @@ pub fn style() -> String {
     )
 }
 
+/// The colour of dropped edges, by the same rules; only a block that has some needs it.
+pub fn dropped_style() -> String {
+    let (light, dark) = ("--dropped:#8a6d00", "--dropped:#e5c453");
+    format!(
+        ":root{{{light}}}\n\
+         @media (prefers-color-scheme:dark){{:root:not([data-theme=light]){{{dark}}}}}\n\
+         :root[data-theme=dark]{{{dark}}}\n\
+         @media print{{:root:root:root{{{light}}}}}\n"
+    )
+}
+
 /// How an edge is drawn.
 #[derive(Clone, Copy, PartialEq, Eq, Debug)]
 pub enum Class {

@@ -2,7 +2,7 @@
 //! that (its content security policy).
 
 use super::{colour, escaped};
-use crate::figures::Block;
+use crate::figures::{kept, Block, DROPPED};
 use std::fmt::Write;
 
 const FRAME: &str = include_str!("page.html");
@@ -19,7 +19,7 @@ pub fn page(name: &str, block: &Block) -> String {
         let (part, after) = after.split_once("}}").unwrap_or((after, ""));
         match part {
             "name" => out.push_str(&escaped(name)),
-            "style" => out.extend([&colour::style(), STYLE]),
+            "style" => out.extend([&colour::style(), &colour::dropped_style(), STYLE]),
             "script" => out.push_str(SCRIPT),
             "block" => put_block(&mut out, name, block),
             _ => {}
@@ -42,6 +42,7 @@ fn put_block(out: &mut String, name: &str, block: &Block) {
     );
     put_directions(out, block);
     put_directives(out, block);
+    put_dropped(out, block);
     let _ =
         write!(out, "\"flat\":[{},{}],\"overflow\":[{},{}],", flat.total, flat.maximum, layered.total, layered.maximum);
     out.push_str("\n\"capacity\":");
@@ -78,7 +79,19 @@ fn put_directives(out: &mut String, block: &Block) {
     out.push_str("},");
 }
 
-/// A net: its vias, turn and score, its pins as 8 × tile + layer - 1, and its edges as 8 × edge + layer - 1.
+/// Each net that lost edges: its number, then these edges by their numbers. Nothing where no net has a ring.
+fn put_dropped(out: &mut String, block: &Block) {
+    let Some(rings) = &block.rings else { return };
+    out.push_str("\"dropped\":");
+    put_list(out, &rings.nets, |out, cut| {
+        let (net, layers) = (&block.job.nets[cut.net - 1], &block.layers[cut.net - 1]);
+        let dropped = net.edges.iter().zip(layers).filter(|(_, layer)| **layer == DROPPED).map(|(edge, _)| *edge);
+        put_numbers(out, &[cut.net].into_iter().chain(dropped).collect::<Vec<usize>>());
+    });
+    out.push(',');
+}
+
+/// A net: its vias, turn and score, its pins as 8 × tile + layer - 1, and its kept edges as 8 × edge + layer - 1.
 fn put_net(out: &mut String, block: &Block, place: usize, turn: usize) {
     let net = &block.job.nets[place];
     let score = block.order.get(turn.wrapping_sub(1)).map_or(0, |entry| entry.score);
@@ -86,9 +99,7 @@ fn put_net(out: &mut String, block: &Block, place: usize, turn: usize) {
     let pins: Vec<usize> = net.pins.iter().map(|pin| 8 * block.job.grid.number(pin.tile) + pin.layer - 1).collect();
     put_numbers(out, &pins);
     out.push(',');
-    let layers = &block.layers[place];
-    let edges: Vec<usize> =
-        net.edges.iter().zip(layers).map(|(edge, layer)| 8 * edge + usize::from(*layer) - 1).collect();
+    let edges: Vec<usize> = kept(net, &block.layers[place]).map(|(edge, layer)| 8 * edge + layer - 1).collect();
     put_numbers(out, &edges);
     out.push(']');
 }
@@ -127,7 +138,17 @@ mod tests {
         // net 1: two vias, second in turn, pins in tiles 0 and 2 on layer 1, edge 0 on layer 2 and edge 1 on layer 1
         assert_eq!(value["nets"][0], serde_json::json!([2, 2, 2500, [0, 16], [1, 8]]));
         assert!(!out.contains('<') && value.get("dirs").is_none() && value.get("limits").is_none());
-        assert!(value.get("directives").is_none());
+        assert!(value.get("directives").is_none() && value.get("dropped").is_none());
+    }
+
+    #[test]
+    fn dropped_edges_are_among_the_numbers() {
+        let mut out = String::new();
+        put_block(&mut out, "rings.job", &crate::figures::rings_example());
+        let value: serde_json::Value = serde_json::from_str(&out).unwrap();
+        assert_eq!(value["dropped"], serde_json::json!([[1, 2, 4, 1, 6], [3, 1, 6, 3, 5]]));
+        // net 1 keeps edges 0 and 5, both on layer 1, and net 3 none
+        assert_eq!([&value["nets"][0][4], &value["nets"][2][4]], [&serde_json::json!([0, 40]), &serde_json::json!([])]);
     }
 
     #[test]

@@ -82,6 +82,12 @@ const excess = (edge) => (excesses.get(edge) || []).reduce((sum, each) => sum + 
 const belowAt = (layer, edge) => netsOn(layer, edge).filter((number) => lowOf(number) > layer).length;
 const belowOf = (number) => net(number).edges.filter((code) => (code & 7) + 1 < lowOf(number)).length;
 
+// The edges that nets with rings dropped, by net, and the nets that dropped an edge. They are on no layer.
+const dropped = new Map((block.dropped || []).map(([number, ...edges]) => [number, edges]));
+const droppedBy = new Map();
+for (const [number, edges] of dropped) for (const edge of edges) droppedBy.set(edge, [...(droppedBy.get(edge) || []), number]);
+const droppedOf = (number) => dropped.get(number) || [];
+
 // 0: no track used, 1 to 10: by tenths, -1: overflow, -2: neither tracks nor nets
 function classOf(layer, edge) {
   const [some, all] = [used(layer, edge), capacity(layer, edge)];
@@ -209,6 +215,7 @@ function edgeFacts(at) {
       ['overflow', group(over), over > 0],
       ['on all layers', `${group(all)} of ${group(tracks)}`, all > tracks],
       ...directiveFacts(at.layer, edge),
+      ...(dropped.size ? [['dropped by nets', (droppedBy.get(edge) || []).map(group).join(', ') || 'none']] : []),
     ]),
     chips(netsOn(at.layer, edge)),
   ];
@@ -247,6 +254,7 @@ function showNet() {
     facts([
       ['net vias', vias],
       ['edges', edges.length],
+      ...(dropped.size ? [['dropped edges', droppedOf(number).length]] : []),
       ['pins', pins.length],
       ['in tiles', new Set(pins.map((code) => code >> 3)).size],
       ['on layers', layers.join(', ') || 'none'],
@@ -270,7 +278,18 @@ function showFigures() {
     ' vias · overflow ', strong(total), `, at most ${group(maximum)} on an edge (flat plan ${group(block.flat[0])}, at most ${group(block.flat[1])}${limits})`,
   );
   if (directives) byId('figures').append(' · ldof ', strong(directives.ldof));
+  document.querySelectorAll('.rings').forEach((each) => { each.hidden = !dropped.size; });
+  if (dropped.size) byId('figures').append(' · dropped edges ', strong(droppedCount()));
   for (let step = 0; step <= 10; step += 1) byId('ramp').append(element('i', { style: `background:var(--u${step})` }));
+}
+
+const droppedCount = () => [...dropped.values()].reduce((sum, edges) => sum + edges.length, 0);
+
+// The nets with rings, those that lost most edges first.
+function showRings() {
+  if (!dropped.size) return;
+  byId('cut').append(facts([['nets cut', group(dropped.size)], ['edges dropped', group(droppedCount())]]));
+  byId('cut-nets').append(chips([...dropped.keys()].sort((a, b) => droppedOf(b).length - droppedOf(a).length || a - b)));
 }
 
 function showCrowded() {
@@ -376,7 +395,8 @@ function showInList(number) {
 function row(number, place) {
   const { vias, edges, pins, turn } = net(number);
   const cells = [number, vias, edges.length, pins.length, turn, ...(directives ? [lowOf(number)] : [])].map((value) => element('span', {}, String(value)));
-  const wants = lowOf(number) > 1 ? `, wants layer ${lowOf(number)} or higher` : '';
+  const wants = (lowOf(number) > 1 ? `, wants layer ${lowOf(number)} or higher` : '')
+    + (droppedOf(number).length ? `, ${droppedOf(number).length} dropped` : '');
   return element('div', {
     class: `net-row${place === list.active ? ' active' : ''}`,
     id: `row-${place}`,
@@ -416,7 +436,7 @@ let palette = {};
 
 function readPalette() {
   palette = { used: [] };
-  for (const name of ['paper', 'ink', 'faint', 'line', 'over', 'mark', 'via', 'net', 'halo']) palette[name] = colour(`--${name}`);
+  for (const name of ['paper', 'ink', 'faint', 'line', 'over', 'mark', 'via', 'net', 'halo', 'dropped']) palette[name] = colour(`--${name}`);
   for (let step = 0; step <= 10; step += 1) palette.used.push(colour(`--u${step}`));
 }
 
@@ -439,7 +459,8 @@ class LayerMap {
   }
 
   words() {
-    if (!this.layer) return `${group(block.vias)} in all`;
+    const count = droppedCount();
+    if (!this.layer) return `${group(block.vias)} in all${count ? `, ${group(count)} ${count === 1 ? 'edge' : 'edges'} dropped` : ''}`;
     let [tracks, taken, over, short] = [0, 0, 0, 0];
     for (let edge = 0; edge < EDGES; edge += 1) {
       tracks += capacity(this.layer, edge);
@@ -494,7 +515,19 @@ class LayerMap {
     pen.clearRect(0, 0, this.base.width, this.base.height);
     this.drawFrame(pen);
     if (this.layer) this.drawEdges(pen);
-    else this.drawVias(pen);
+    else {
+      this.drawDropped(pen, [...droppedBy.keys()]);
+      this.drawVias(pen);
+    }
+  }
+
+  // Dropped edges, dashed and in their own colour: on the map of vias, and on every map those of the chosen net.
+  drawDropped(pen, edges) {
+    pen.strokeStyle = palette.dropped;
+    pen.lineWidth = Math.max(1, Math.min(0.2 * this.tile, 5));
+    pen.setLineDash([3, 2]);
+    this.strokeEdges(pen, edges.map((edge) => 8 * edge));
+    pen.setLineDash([]);
   }
 
   drawFrame(pen) {
@@ -624,6 +657,7 @@ class LayerMap {
   // The chosen net: bold on this layer, hollow where it wants a higher one, dashed on the others, with its pins and vias here.
   drawNet(pen, { number, pins, edges }) {
     const here = (code) => this.layer && (code & 7) + 1 === this.layer;
+    this.drawDropped(pen, droppedOf(number));
     pen.lineCap = 'round';
     pen.strokeStyle = palette.net;
     pen.lineWidth = Math.max(1, Math.min(0.12 * this.tile, 2));
@@ -873,6 +907,7 @@ function start() {
   byId('maps').append(...maps.map((map) => map.figure));
   redrawAll();
   showDirectives();
+  showRings();
   search();
   showCrowded();
   listenToPage();

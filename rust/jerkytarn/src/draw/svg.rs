@@ -1,7 +1,7 @@
 //! The picture: the layers side by side, and the vias by tile, for a document. Edges of one class are one path, so that
 //! a large block stays small.
 
-use super::colour::{class, style, Class, CLASSES};
+use super::colour::{class, dropped_style, style, Class, CLASSES};
 use super::escaped;
 use crate::figures::{Block, Place};
 use crate::job::{in_brackets, Job, Way};
@@ -41,6 +41,9 @@ text{font:12px system-ui,sans-serif;fill:var(--ink)}
 .o{stroke:var(--over)}.m{fill:var(--mark);stroke:var(--ink)}.s{fill:var(--over);stroke:var(--ink);stroke-width:.7}
 .r{fill:var(--paper)}.v{fill:var(--via)}
 ";
+
+/// The same for dropped edges, where there are some: a dashed stroke of their own colour.
+const DROPPED_STYLE: &str = ".d{fill:none;stroke:var(--dropped);stroke-dasharray:3 2}\n";
 
 /// Where everything stands.
 struct Layout {
@@ -146,6 +149,9 @@ pub fn picture(name: &str, block: &Block) -> String {
         w = n(width),
         h = n(height)
     );
+    if block.rings.is_some() {
+        out.extend([&dropped_style(), DROPPED_STYLE]);
+    }
     for class in 0..CLASSES {
         let _ = write!(out, ".u{class}{{stroke:var(--u{class})}}");
     }
@@ -172,7 +178,14 @@ fn put_header(out: &mut String, name: &str, block: &Block) {
     let _ = writeln!(out, "<text class=\"h\" x=\"{MARGIN}\" y=\"38\">{}</text>", escaped(name));
     let vias = grouped(block.totals.vias);
     let ldof = block.directives.as_ref().map_or(String::new(), |directives| format!("; ldof {}", g(directives.ldof())));
-    let _ = writeln!(out, "<text class=\"f\" x=\"{MARGIN}\" y=\"60\">{size}; {vias} vias; {overflow}{ldof}</text>");
+    let dropped = block.rings.as_ref().map_or(String::new(), |rings| match rings.dropped() {
+        1 => "; 1 edge dropped".into(),
+        count => format!("; {} edges dropped", g(count)),
+    });
+    let _ = writeln!(
+        out,
+        "<text class=\"f\" x=\"{MARGIN}\" y=\"60\">{size}; {vias} vias; {overflow}{ldof}{dropped}</text>"
+    );
 }
 
 /// A panel's title and frame.
@@ -296,6 +309,7 @@ fn put_vias(out: &mut String, block: &Block, layout: &Layout) {
     let at = |tile: usize| block.tile_vias.iter().map(|level| level[tile]).sum::<usize>();
     let most = (0..tiles).map(at).max().unwrap_or(0);
     put_panel(out, layout, block.job.layers, "Vias", &format!("at most {} in a tile", grouped(most as u64)));
+    put_dropped(out, block, layout);
     let mut discs = String::new();
     for tile in (0..tiles).filter(|tile| at(*tile) > 0) {
         let (x, y) = middle(block, layout, block.job.grid.tile(tile));
@@ -307,9 +321,21 @@ fn put_vias(out: &mut String, block: &Block, layout: &Layout) {
     let _ = writeln!(out, "<path class=\"v\" d=\"{discs}\"/>\n</g>");
 }
 
-/// How many lines the legend has for the optional lines of a job.
+/// The edges that some net dropped. They are on no layer and use no track, so they stand with the vias.
+fn put_dropped(out: &mut String, block: &Block, layout: &Layout) {
+    let Some(rings) = &block.rings else { return };
+    let mut path = String::new();
+    for edge in (0..block.job.grid.edges()).filter(|edge| rings.edges[*edge] > 0) {
+        let (tile, way) = block.job.grid.named(edge);
+        put_segment(&mut path, middle(block, layout, tile), way, 0.0, layout.tile);
+    }
+    let stroke = n((0.5 * layout.stroke()).max(1.0));
+    let _ = writeln!(out, "<path class=\"d\" stroke-width=\"{stroke}\" d=\"{path}\"/>");
+}
+
+/// How many lines the legend has for what not every job has.
 fn more_legend_lines(block: &Block) -> usize {
-    usize::from(block.job.dirs.is_some()) + usize::from(block.directives.is_some())
+    [block.job.dirs.is_some(), block.directives.is_some(), block.rings.is_some()].map(usize::from).iter().sum()
 }
 
 /// What colours and marks mean, and, where layers have directions, what their letters do.
@@ -341,6 +367,16 @@ fn put_legend(out: &mut String, y: f64, block: &Block) {
         let _ = writeln!(
             out,
             "<path class=\"m\" d=\"{mark}\"/><text class=\"f\" x=\"16\" y=\"{}\">{words}</text>",
+            n(line)
+        );
+        line += LEGEND_LINE;
+    }
+    if block.rings.is_some() {
+        let words = "an edge that some net dropped, since it closes a ring or then hangs loose; it uses no track";
+        let _ = writeln!(
+            out,
+            "<path class=\"d\" stroke-width=\"4\" d=\"M0 {}h22\"/><text class=\"f\" x=\"28\" y=\"{}\">{words}</text>",
+            n(line - 4.0),
             n(line)
         );
     }
@@ -386,6 +422,22 @@ mod tests {
             panel(5).contains(">too few tracks here and above for the nets whose lowest wanted layer this is (ldof)<")
         );
         assert!(!picture("a", &crate::figures::directed_example()).contains("ldof"));
+    }
+
+    #[test]
+    fn dropped_edges_are_drawn_with_the_vias() {
+        let drawn = picture("rings.job", &crate::figures::rings_example());
+        assert!(drawn.contains("flat 0); 8 edges dropped</text>") && drawn.contains("--dropped:"), "{drawn}");
+        let panel = |layer: usize| drawn.split("<g transform").nth(layer).unwrap();
+        let strokes = |part: &str| {
+            let paths = part.split("class=\"d\"").skip(1).map(|path| path.split('"').nth(3).unwrap());
+            paths.map(|path| path.matches('M').count()).sum::<usize>()
+        };
+        // six edges of the grid are dropped by some net; the last panel is the legend
+        assert_eq!([1, 2, 3, 4].map(|place| strokes(panel(place))), [0, 0, 6, 1]);
+        assert!(panel(4).contains(">an edge that some net dropped, since it closes a ring or then hangs loose"));
+        let without = picture("a", &crate::figures::timing_example());
+        assert!(!without.contains("dropped") && !without.contains("class=\"d\""));
     }
 
     #[test]

@@ -5,7 +5,7 @@
 use crate::job::{self, Form, Grid, Job, Kind, Tile, Way, DIRS_LINE};
 use crate::visible::shortened;
 use layerplan::Lengths;
-use std::collections::HashMap;
+use std::collections::{HashMap, HashSet};
 use std::ops::Range;
 
 /// What was found on the line.
@@ -261,7 +261,7 @@ fn edges_of(site: &Site) -> Option<Vec<(usize, Range<usize>)>> {
 /// Tiles and the edges between them, for looking for ways along edges.
 struct Ways {
     grid: Grid,
-    by_tile: HashMap<usize, Vec<(usize, usize)>>,
+    by_tile: HashMap<usize, Vec<usize>>,
 }
 
 impl Ways {
@@ -271,80 +271,23 @@ impl Ways {
 
     fn add(&mut self, edge: usize) {
         let [one, other] = self.grid.ends(edge).map(|tile| self.grid.number(tile));
-        self.by_tile.entry(one).or_default().push((edge, other));
-        self.by_tile.entry(other).or_default().push((edge, one));
+        self.by_tile.entry(one).or_default().push(other);
+        self.by_tile.entry(other).or_default().push(one);
     }
 
-    /// Every tile that is reached from this one, with the edge and the tile that it was reached by.
-    fn reached(&self, from: usize) -> HashMap<usize, Option<(usize, usize)>> {
-        let mut reached = HashMap::from([(from, None)]);
+    /// Every tile that is reached from this one.
+    fn reached(&self, from: usize) -> HashSet<usize> {
+        let mut reached = HashSet::from([from]);
         let mut open = vec![from];
         while let Some(tile) = open.pop() {
-            for (edge, to) in self.by_tile.get(&tile).into_iter().flatten() {
-                reached.entry(*to).or_insert_with(|| {
+            for to in self.by_tile.get(&tile).into_iter().flatten() {
+                if reached.insert(*to) {
                     open.push(*to);
-                    Some((*edge, tile))
-                });
+                }
             }
         }
         reached
     }
-
-    /// The edges on the way from one tile to another, where there is one.
-    fn way(&self, from: usize, to: usize) -> Option<Vec<usize>> {
-        let reached = self.reached(from);
-        let mut way = Vec::new();
-        let mut tile = to;
-        while let Some((edge, before)) = *reached.get(&tile)? {
-            way.push(edge);
-            tile = before;
-        }
-        Some(way)
-    }
-}
-
-/// The most entries of a ring that are named.
-const NAMED: usize = 12;
-
-/// 7: the first edge that closes a ring with those before it, and the ring.
-pub fn ring(site: &Site) -> Option<Finding> {
-    let grid = site.job.grid;
-    let edges = edges_of(site)?;
-    let (closing, at, others) = closing_edge(grid, &edges)?;
-    let listed: Vec<String> = others.iter().take(NAMED).map(|edge| edge_named(grid, *edge)).collect();
-    let more = if others.len() > NAMED { format!(" and {} more", others.len() - NAMED) } else { String::new() };
-    Some(Finding {
-        at: Some(at),
-        found: format!("edge {} closes a ring with {}{more}", edge_named(grid, closing), listed.join(" ")),
-        expected: "the edges of a net form a tree, without rings".into(),
-        advice: Some("take one of these edges out; the others still join all their tiles".into()),
-    })
-}
-
-/// The first edge whose ends are joined by edges before it, its place, and those edges. Ends that are joined are told
-/// by the first tile of their part, so that the ways are looked through once only.
-fn closing_edge(grid: Grid, edges: &[(usize, Range<usize>)]) -> Option<(usize, Range<usize>, Vec<usize>)> {
-    let mut parts: Vec<usize> = (0..grid.tiles()).collect();
-    let mut ways = Ways::new(grid);
-    for (edge, at) in edges {
-        let [one, other] = grid.ends(*edge).map(|tile| grid.number(tile));
-        let [first, second] = [one, other].map(|tile| part(&mut parts, tile));
-        if first == second {
-            return Some((*edge, at.clone(), ways.way(one, other)?));
-        }
-        parts[first.max(second)] = first.min(second);
-        ways.add(*edge);
-    }
-    None
-}
-
-/// The first tile of the part that a tile is in.
-fn part(parts: &mut [usize], mut tile: usize) -> usize {
-    while parts[tile] != tile {
-        parts[tile] = parts[parts[tile]];
-        tile = parts[tile];
-    }
-    tile
 }
 
 /// 8: the first pin that is not reached from the first one, or else the first such edge.
@@ -356,7 +299,7 @@ pub fn apart(site: &Site) -> Option<Finding> {
     edges.iter().for_each(|(edge, _)| ways.add(*edge));
     let start = pins.first()?.tile;
     let reached = ways.reached(grid.number(start));
-    let missed = |tile: Tile| !reached.contains_key(&grid.number(tile));
+    let missed = |tile: Tile| !reached.contains(&grid.number(tile));
     let lost_pin = pins.iter().position(|pin| missed(pin.tile));
     let lost_edge = edges.iter().position(|(edge, _)| missed(grid.ends(*edge)[0]));
     let (at, lost, tile) = match (lost_pin, lost_edge) {
@@ -372,7 +315,7 @@ pub fn apart(site: &Site) -> Option<Finding> {
         (None, None) => return None,
     };
     let near = reached
-        .keys()
+        .iter()
         .map(|number| grid.tile(*number))
         .min_by_key(|near| (near.x.abs_diff(tile.x) + near.y.abs_diff(tile.y), near.y, near.x));
     Some(Finding {

@@ -50,7 +50,25 @@ const fn lent(caption: &'static str, lend: &'static str, line: u32) -> Example {
     Example { caption, text: Some(include_str!("examples/whole.job")), lend: Some(lend), line }
 }
 
-pub const RULES: [Rule; 13] = [
+/// A number that no text gets any more.
+pub struct Ended {
+    pub number: u32,
+    pub title: &'static str,
+    pub meaning: &'static str,
+}
+
+pub const ENDED: [Ended; 1] = [Ended {
+    number: 7,
+    title: "rings: it no longer occurs",
+    meaning: "The edges of a net may contain rings. They are cut: going along the `edges` line, an edge that closes a ring \
+        with kept earlier ones is dropped, and what then hangs loose without a pin is dropped too. A dropped edge has layer 0 \
+        in the plan and uses no track. `jerkytarn report` tells which nets lost edges.",
+}];
+
+/// The highest number of all.
+pub const LAST: u32 = 13;
+
+pub const RULES: [Rule; 12] = [
     Rule {
         number: 1,
         title: "the text is too long",
@@ -109,28 +127,19 @@ pub const RULES: [Rule; 13] = [
         title: "the same edge twice",
         line: "the `edges` line",
         meaning: "A net uses each edge of the grid at most once.",
-        order: "On an `edges` line it comes after 2 and 3 and before 7, 8 and 13.",
+        order: "On an `edges` line it comes after 2 and 3 and before 8 and 13.",
         advice: "Take one of the two out.",
         example: shown("On line 14 the edge 0,0,e stands first and last.", include_str!("examples/6.job"), 14),
         find: |case| find::edge_twice(&case.site()?),
     },
     Rule {
-        number: 7,
-        title: "the net's edges contain a ring",
-        line: "the `edges` line",
-        meaning: "The edges of a net must form a tree: from one tile to another there is one way along them.",
-        order: "On an `edges` line it comes after 2, 3 and 6 and before 8 and 13.",
-        advice: "Take one edge of the ring out; the others still join all of its tiles.",
-        example: shown("Line 14 goes round a square of four tiles.", include_str!("examples/7.job"), 14),
-        find: |case| find::ring(&case.site()?),
-    },
-    Rule {
         number: 8,
         title: "a pin or an edge is not joined to the first pin",
         line: "the `edges` line, also where it is a pin that is not joined",
-        meaning: "There is no ring, but from the tile of the net's first pin some pin or edge cannot be reached along \
-            the edges.",
-        order: "On an `edges` line it comes after 2, 3, 6 and 7 and before 13.",
+        meaning:
+            "From the tile of the net's first pin some pin or edge cannot be reached along the edges. All edges of \
+            the line count, also those that are dropped because they close rings.",
+        order: "On an `edges` line it comes after 2, 3 and 6 and before 13.",
         advice: "Add the edges that are missing between the parts, or make two nets of them.",
         example: shown("Line 14 goes to tile 1,0, but a pin is in tile 2,0.", include_str!("examples/8.job"), 14),
         find: |case| find::apart(&case.site()?),
@@ -165,7 +174,8 @@ pub const RULES: [Rule; 13] = [
         number: 11,
         title: "the answer list or the print buffer is too short",
         line: "the last line",
-        meaning: "The answer list takes one byte for each entry of all `edges` lines, the print buffer \
+        meaning:
+            "The answer list takes one byte for each entry of all `edges` lines, dropped or not, the print buffer \
             256 + 64 x nets + 2 x entries bytes, even where the printed text is shorter; the caller lent fewer.",
         order: "It is found after the whole text: a job that gets it has no other fault.",
         advice:
@@ -195,13 +205,18 @@ pub const RULES: [Rule; 13] = [
         line: "the `edges` line",
         meaning:
             "In a job with a `dirs` line, a net has an east edge and no layer is `h`, or a north edge and no layer \
-            is `v`. A layer without tracks is a layer all the same.",
-        order: "On an `edges` line it comes last, after 2, 3, 6, 7 and 8.",
+            is `v`. A layer without tracks is a layer all the same, and an edge that would be dropped counts too.",
+        order: "On an `edges` line it comes last, after 2, 3, 6 and 8.",
         advice: "Take the edge out, or give its direction a layer on the `dirs` line.",
         example: shown("Line 15 goes north, and both layers are `h`.", include_str!("examples/13.job"), 15),
         find: |case| find::without_layer(&case.site()?),
     },
 ];
+
+/// The words for a number that has ended.
+pub fn ended(number: u32) -> Option<&'static Ended> {
+    ENDED.iter().find(|ended| ended.number == number)
+}
 
 /// The row of a number.
 pub fn rule(number: u32) -> Option<&'static Rule> {

@@ -58,8 +58,10 @@ fn every_example_of_the_table_gets_its_number_and_line() {
         assert!(told.contains("  found     "), "{told}");
         assert!(in_words(rule).contains(rule.title));
     }
-    assert!(RULES.iter().enumerate().all(|(place, rule)| rule.number as usize == place + 1));
-    assert!(overview().lines().count() > RULES.len());
+    let numbers: Vec<u32> = RULES.iter().map(|rule| rule.number).collect();
+    let all: Vec<u32> = (1..=LAST).filter(|number| ended(*number).is_none()).collect();
+    assert_eq!(numbers, all);
+    assert!(overview().lines().count() > LAST as usize);
 }
 
 #[test]
@@ -139,14 +141,27 @@ fn nets_pins_and_edges() {
 }
 
 #[test]
-fn an_edge_apart_and_a_ring() {
+fn a_number_that_has_ended() {
+    let told = number_in_words(7).unwrap();
+    assert!(told.starts_with("Refusal 7: rings: it no longer occurs\n") && told.contains("They are cut"), "{told}");
+    assert!(overview().contains("\n   7  rings: it no longer occurs\n   8  "));
+    assert_eq!((number_in_words(0), number_in_words(14)), (None, None));
+}
+
+#[test]
+fn an_edge_apart_beside_a_ring() {
     let head = "width=4\nheight=2\nlayers=2\nalpha=1\nbeta=1\ngamma=0\neast=1,1,1,1,1,1\nnorth=1,1,1,1\n\
         east=1,1,1,1,1,1\nnorth=1,1,1,1\nnets=1\nnet=1\npins=0,0,1\n";
     let job = |edges: &str| format!("{head}edges={edges}\n").into_bytes();
     expect(&job("0,0,e;2,1,e"), 8, 14, &["edge 2, 2,1,e", "     ^^^^^"]);
-    expect(&job("0,0,e;1,0,e;0,0,n;0,1,e;2,0,n;1,1,e"), 7, 14, &["edge 1,1,e closes a ring with"]);
-    let (_, _, message) = refused(&job("2,0,e;0,0,e;0,0,n;0,1,e;1,0,n"));
-    assert!(message.contains("edge 1,0,n closes a ring with 0,1,e 0,0,n 0,0,e\n"), "{message}");
+    expect(
+        &job("0,0,e;0,0,n;0,1,e;1,0,n;2,1,e"),
+        8,
+        14,
+        &["edge 5, 2,1,e", "is not reached from the first pin's tile 0,0"],
+    );
+    expect(&job("0,0,e;0,0,n;0,1,e;1,0,n;1,0,n"), 6, 14, &["edge 1,0,n as entry 4 and again as entry 5"]);
+    assert!(Planner::new().print(&job("0,0,e;1,0,e;0,0,n;0,1,e;2,0,n;1,1,e")).is_ok());
 }
 
 /// That the example with directions, with a line put in the place of another, is told so where it gets this number.

@@ -1,6 +1,7 @@
 //! Layer directives: which layers the nets' timing wants, what the plan gives them, and where the wanted layers have too
 //! few tracks.
 
+use super::kept;
 use crate::job::Job;
 use serde::Serialize;
 use std::cmp::Reverse;
@@ -19,7 +20,7 @@ pub struct Directives {
 pub struct Wanted {
     pub low: usize,
     pub nets: usize,
-    /// The edges of these nets.
+    /// The kept edges of these nets.
     pub edges: usize,
     /// Those of them that the plan puts below that layer.
     pub below: usize,
@@ -59,12 +60,12 @@ impl Directives {
             let low = net.wants();
             let row = &mut by_layer[low - 1];
             row.nets += 1;
-            row.edges += net.edges.len();
-            for (edge, layer) in net.edges.iter().zip(layers) {
-                wanting[*edge][low - 1] += 1;
-                let missed = usize::from(usize::from(*layer) < low);
+            for (edge, layer) in kept(net, layers) {
+                row.edges += 1;
+                wanting[edge][low - 1] += 1;
+                let missed = usize::from(layer < low);
                 row.below += missed;
-                below[*edge] += missed;
+                below[edge] += missed;
             }
         }
         let at_edge = |(edge, below)| at_edge(job, edge, &wanting[edge], below);

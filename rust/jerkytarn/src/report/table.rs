@@ -1,6 +1,6 @@
 //! The report as a table for a terminal.
 
-use super::{Directives, Report};
+use super::{Directives, Report, Rings};
 use crate::job::{in_brackets, Grid, Way};
 use std::fmt::Write;
 
@@ -79,6 +79,9 @@ pub fn table(report: &Report, style: Style) -> String {
     put_levels(&mut out, report, style);
     put_histogram(&mut out, report, style);
     put_nets(&mut out, report);
+    if let Some(rings) = &report.rings {
+        put_cuts(&mut out, rings);
+    }
     out.lines().map(|line| format!("{}\n", line.trim_end())).collect()
 }
 
@@ -97,6 +100,11 @@ pub fn put_block(out: &mut String, report: &Report, style: Style) {
     line!(out, "  nets              {}", g(report.nets));
     line!(out, "  pins              {}, in {} tiles of their nets", g(report.pins), g(report.pin_tiles));
     line!(out, "  edge entries      {}", g(report.entries));
+    if let Some(Rings { nets, dropped, kept, .. }) = &report.rings {
+        let many = |count: usize, one: &str| format!("{} {one}{}", g(count), if count == 1 { "" } else { "s" });
+        let (nets, dropped) = (many(*nets, "net"), many(*dropped, "edge"));
+        line!(out, "  rings             {nets} cut, {dropped} dropped, {} kept", g(*kept));
+    }
     line!(out, "  flat overflow     total {}, maximum {}", g(flat.total), g(flat.maximum));
     if let Some(limits) = report.limits {
         line!(out, "  limit of a layer  east {}, north {}", g(limits.east), g(limits.north));
@@ -254,6 +262,15 @@ fn put_nets(out: &mut String, report: &Report) {
             row.turn,
             grouped(row.score)
         );
+    }
+}
+
+/// The nets with rings.
+fn put_cuts(out: &mut String, rings: &Rings) {
+    line!(out, "\n  nets that lost most edges to rings");
+    line!(out, "      net  entries  dropped     kept");
+    for row in &rings.most_dropped {
+        line!(out, "    {:>5} {:>8} {:>8} {:>8}", row.net, g(row.entries), g(row.dropped), g(row.kept));
     }
 }
 

@@ -19,6 +19,9 @@ pub const DIRECTED_PLAN: &str = concat!(env!("CARGO_MANIFEST_DIR"), "/../../exam
 pub const TIMING: &str = concat!(env!("CARGO_MANIFEST_DIR"), "/../../examples/timing.job");
 pub const TIMING_PLAN: &str = concat!(env!("CARGO_MANIFEST_DIR"), "/../../examples/timing.plan");
 
+pub const RINGS: &str = concat!(env!("CARGO_MANIFEST_DIR"), "/../../examples/rings.job");
+pub const RINGS_PLAN: &str = concat!(env!("CARGO_MANIFEST_DIR"), "/../../examples/rings.plan");
+
 /// The program.
 pub fn jerkytarn() -> Command {
     let mut command = Command::new(env!("CARGO_BIN_EXE_jerkytarn"));

@@ -1,0 +1,4 @@
+pub mod Subsets
+pub mod Kept
+pub mod Prune
+pub mod Strip
