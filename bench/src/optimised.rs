@@ -531,6 +531,7 @@ fn mark_edge(w: &mut Work, width: usize, base: u32, here: usize, north: usize) {
 }
 
 /// Marks the pins of a net. The lowest of their tiles.
+#[inline(always)]
 fn mark_pins(text: &[u8], kept: Kept, w: &mut Work, g: Shape, base: u32) -> usize {
     let mut low = usize::MAX;
     let mut place = kept.pins as usize;
@@ -538,7 +539,8 @@ fn mark_pins(text: &[u8], kept: Kept, w: &mut Work, g: Shape, base: u32) -> usiz
         let (x, next) = known(text, place);
         let (y, next) = known(text, next);
         let tile = y * g.width + x;
-        w.marks[tile] = w.marks[tile].max(base) | 1 << (at(text, next) - b'1');
+        let mark = of(w.marks, tile);
+        *mark = (*mark).max(base) | 1 << (at(text, next) - b'1');
         low = low.min(tile);
         place = next + 2;
         if at(text, next + 1) == b'\n' {
@@ -617,20 +619,7 @@ fn write_kept(text: &[u8], kept: Kept, w: &Work, g: Shape, answer: &mut [u8]) {
 /// Marks the net's pins and edges, and lists its edges. Its lowest tile.
 #[inline(never)]
 fn mark(text: &[u8], kept: Kept, w: &mut Work, g: Shape, base: u32) -> usize {
-    let mut low = usize::MAX;
-    let mut place = kept.pins as usize;
-    loop {
-        let (x, next) = known(text, place);
-        let (y, next) = known(text, next);
-        let tile = y * g.width + x;
-        let mark = of(w.marks, tile);
-        *mark = (*mark).max(base) | 1 << (at(text, next) - b'1');
-        low = low.min(tile);
-        place = next + 2;
-        if at(text, next + 1) == b'\n' {
-            break;
-        }
-    }
+    let mut low = mark_pins(text, kept, w, g, base);
     let mut count = 0;
     known_edges(text, kept.edges as usize, g.width, |here, north| {
         let there = if north == 1 { here + g.width } else { here + 1 };

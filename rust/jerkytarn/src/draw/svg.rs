@@ -23,7 +23,7 @@ const TITLE: f64 = 24.0;
 const LEGEND: f64 = 64.0;
 /// What one more line of the legend takes.
 const LEGEND_LINE: f64 = 18.0;
-const LEGEND_WIDTH: f64 = 560.0;
+const LEGEND_WIDTH: f64 = 660.0;
 
 /// How many panels stand in a row, so that the last row is nearly as long as the others.
 fn columns(panels: usize) -> usize {
