@@ -43,10 +43,15 @@ module _ (lo hi : ℕ → ℕ) where
   edge-at [] t h = absurd (omega arith)
   edge-at (e ∷ es) t h = go (edge-at es t) (touches lo hi t e) refl
     where
+      AtFirst : Bool → Type 0
+      AtFirst q = In (cond q e (edge_at lo hi es t)) (e ∷ es) × At lo hi (cond q e (edge_at lo hi es t)) t
+
       go : (1 ≤ degree lo hi es t → In (edge_at lo hi es t) es × At lo hi (edge_at lo hi es t) t) → (q : Bool) → touches lo hi t e ≡ q
           → In (cond (touches lo hi t e) e (edge_at lo hi es t)) (e ∷ es) × At lo hi (cond (touches lo hi t e) e (edge_at lo hi es t)) t
-      go ih true k = rw k (in_head e es, ⊎_elim (λ c. c.0) (λ c. absurd (omega (arith, c.2, ap bit k))) (touch-cases lo hi t e))
-      go ih false k = rw k (let r = ih (omega (arith, ap bit k)) in (in_tail (edge_at lo hi es t) e es r.0, r.1))
+      go ih true k = subst AtFirst (sym k) (in_head e es, ⊎_elim (λ c. c.0) (λ c. absurd (omega (arith, c.2, ap bit k))) (touch-cases lo hi t e))
+      go ih false k =
+          let r = ih (omega (arith, ap bit k)) in
+          subst AtFirst (sym k) (in_tail (edge_at lo hi es t) e es r.0, r.1)
 
   -- where one edge meets a tile, it is that one
   pub edge-only : (es : List ℕ) (t : ℕ) → degree lo hi es t ≡ 1 → (e : ℕ) → In e es → At lo hi e t → edge_at lo hi es t ≡ e
