@@ -58,7 +58,7 @@ fn brief_comma(s: &[u8], at: usize) -> Numeral
 
 // How far the capacities of a line are read: the place of the next one and where it is stored, how many come before the last, and whether all so far
 // are in their range.
-#[derive(Drop)]
+#[derive(Clone, Copy)]
 struct Run {
     at: usize,
     to: usize,
@@ -98,7 +98,7 @@ fn brief_run(s: &[u8], w: &mut [u32], k: usize, from: Run) -> Run
 }
 
 // Where the capacities of a line are stored: the first at `first`, and each other `k` places after the one before; how many they are.
-#[derive(Drop)]
+#[derive(Clone, Copy)]
 struct Column {
     first: usize,
     k: usize,

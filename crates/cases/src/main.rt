@@ -26,7 +26,7 @@ const BYTES: usize = 62;
 const FILL: usize = 75;
 
 // Number and line of a refusal, 0 and 0 for an accepted job.
-#[derive(Drop)]
+#[derive(Clone, Copy)]
 struct Told {
     number: usize,
     line: usize,

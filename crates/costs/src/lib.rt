@@ -63,7 +63,7 @@ fn vias_from(layers: usize, s: usize) -> [u32; 8]
 }
 
 // A tile's branches: they lead to so many tiles from `first` on, whose rows are counted from `rows`.
-#[derive(Drop)]
+#[derive(Clone, Copy)]
 pub struct Branches {
     pub rows: usize,
     pub first: usize,
@@ -316,7 +316,7 @@ fn leaf_costs(chart: &[u32; 256], pins: u32) -> [u32; 8]
 }
 
 // Where the intervals of a tile with these pins may start, and where they may end.
-#[derive(Drop)]
+#[derive(Clone, Copy)]
 struct Bounds {
     starts: usize,
     high: usize,

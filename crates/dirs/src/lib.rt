@@ -43,7 +43,7 @@ fn end_of(more: usize) -> u8
 }
 
 // The ways of the layers, bit l - 1 for layer l, and the place after their letters.
-#[derive(Drop)]
+#[derive(Clone, Copy)]
 enum Ways {
     Mask(u32, usize),
     Malformed,
@@ -73,7 +73,7 @@ fn letters(s: &[u8], from: usize, k: usize) -> Ways
 // ---- the line
 
 // The directions of the layers, and the place of the next line.
-#[derive(Drop)]
+#[derive(Clone, Copy)]
 pub enum DirsRead {
     Dirs(Dirs, Cursor),
     Refused(Refusal),

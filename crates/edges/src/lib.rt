@@ -23,7 +23,7 @@ use text::{Cursor, Fault, Item, Refusal};
 use ways::Ends;
 
 // What the entries of a line have shown so far, the worst of it: "On one line the lower number wins".
-#[derive(Drop)]
+#[derive(Clone, Copy)]
 pub enum Judged {
     Fine,
     Ring,
@@ -32,7 +32,7 @@ pub enum Judged {
 }
 
 // How many entries there were, and in how many parts the net's tiles lie.
-#[derive(Drop)]
+#[derive(Clone, Copy)]
 pub struct Seen {
     pub entries: usize,
     pub parts: usize,
@@ -40,7 +40,7 @@ pub struct Seen {
 }
 
 // The entries of an `edges` line: where they stand, how many they are, and whether they have a ring.
-#[derive(Drop)]
+#[derive(Clone, Copy)]
 pub struct Edges {
     pub from: usize,
     pub entries: usize,
@@ -48,7 +48,7 @@ pub struct Edges {
 }
 
 // An `edges` line that was read, and the place of the next line.
-#[derive(Drop)]
+#[derive(Clone, Copy)]
 pub enum EdgesRead {
     Line(Edges, Cursor),
     Refused(Refusal),

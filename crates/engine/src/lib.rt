@@ -77,14 +77,14 @@ fn layers_tried(j: usize, k: usize, layers: usize) -> usize
 
 // A tile whose branches are to get their layers: the tiles that they lead to begin at `first`, its pins and the layer above it are the set `base`,
 // and the combination that is looked for costs `goal`.
-#[derive(Drop)]
+#[derive(Clone, Copy)]
 struct Tile {
     first: usize,
     base: u32,
     goal: u32,
 }
 
-#[derive(Drop)]
+#[derive(Clone, Copy)]
 struct Combination {
     a: usize,
     b: usize,

@@ -14,7 +14,7 @@ ghost use Rattle.flat.specs.Limited.{way_limit, limits_of, limit_at};
 use layout::{Dirs, Shape};
 
 // TO and MO of the flat plan.
-#[derive(Drop)]
+#[derive(Clone, Copy)]
 pub struct Flat {
     pub total: u64,
     pub most: u32,
@@ -142,7 +142,7 @@ fn way_limit(w: &[u32], g: Shape, way: u32, first: usize, n: usize) -> u32
 }
 
 // The limits of the edges that go east, which are those before the border, and of those that go north.
-#[derive(Drop)]
+#[derive(Clone, Copy)]
 pub struct Limits {
     pub border: usize,
     pub east: u32,

@@ -28,14 +28,14 @@ const MOST_NETS: usize = 4096;
 // "text above 1,048,576 bytes"
 const MOST_TEXT: usize = 1048576;
 
-#[derive(Drop)]
+#[derive(Clone, Copy)]
 pub struct Weights {
     pub alpha: usize,
     pub beta: usize,
     pub gamma: usize,
 }
 
-#[derive(Drop)]
+#[derive(Clone, Copy)]
 pub struct Head {
     pub shape: Shape,
     pub alpha: usize,
@@ -44,19 +44,19 @@ pub struct Head {
     pub nets: usize,
 }
 
-#[derive(Drop)]
+#[derive(Clone, Copy)]
 pub enum Sizes {
     Shape(Shape, Cursor),
     Refused(Refusal),
 }
 
-#[derive(Drop)]
+#[derive(Clone, Copy)]
 pub enum Weighed {
     Weights(Weights, Cursor),
     Refused(Refusal),
 }
 
-#[derive(Drop)]
+#[derive(Clone, Copy)]
 pub enum HeadRead {
     Head(Head, Cursor),
     Refused(Refusal),

@@ -5,14 +5,14 @@ ghost use Rattle.text.specs.declared.Numeral.TheVariants.{Value};
 ghost use Rattle.known.specs.Known.{entry_of, ShortNumber, ShortEntry};
 
 // A coordinate, and the place after the comma behind it.
-#[derive(Drop)]
+#[derive(Clone, Copy)]
 pub struct Coordinate {
     pub value: usize,
     pub next: usize,
 }
 
 // An entry of three parts, and the place after the byte behind it, which ends the line after the last entry. Of an edge the third part is 0 for east and 1 for north.
-#[derive(Drop)]
+#[derive(Clone, Copy)]
 pub struct Known {
     pub x: usize,
     pub y: usize,

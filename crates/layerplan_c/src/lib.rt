@@ -14,7 +14,7 @@ use text::Refusal;
 
 // "number, line, total vias, total and maximum", and the length of the printed text.
 #[repr(C)]
-#[derive(Drop)]
+#[derive(Clone, Copy)]
 pub struct LayerplanResult {
     pub number: u64,
     pub line: u64,

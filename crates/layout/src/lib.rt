@@ -11,12 +11,12 @@ ghost use Rattle.layout.specs.Areas.{loads_at, demand_at, flat_at, tiles_at, lin
 ghost use Rattle.layout.specs.Table.{pins_column, edges_column, tiles_column, turn_column, first_column, count_column, entries_in, dropped_in, vias_column, table_size, low_in, score_in, score_put};
 
 // K layers. "Limits belong to the stack".
-#[derive(Drop)]
+#[derive(Clone, Copy)]
 pub struct Stack {
     pub layers: usize,
 }
 
-#[derive(Drop)]
+#[derive(Clone, Copy)]
 pub enum Made {
     Stack(Stack),
     Outside,
@@ -41,7 +41,7 @@ impl Stack {
 }
 
 // Which way each layer runs, where the job says it: bit l - 1 is set where layer l runs north, and clear where it runs east.
-#[derive(Drop)]
+#[derive(Clone, Copy)]
 pub enum Dirs {
     Any,
     Given(u32),
@@ -103,7 +103,7 @@ pub fn layers_in(d: Dirs, way: u32, k: usize) -> usize
 pub const TILES: usize = 4096;
 
 // W, H and K; T tiles, room for m places of a walk, the edges that go east, and E edges in all; which way the layers run.
-#[derive(Drop)]
+#[derive(Clone, Copy)]
 pub struct Shape {
     pub w: usize,
     pub h: usize,
@@ -154,7 +154,7 @@ pub fn tile_at(g: Shape, x: usize, y: usize) -> usize
 }
 
 // A way out of a tile: the tile that it leads to, and the number of its edge.
-#[derive(Drop)]
+#[derive(Clone, Copy)]
 pub struct Way {
     pub tile: usize,
     pub edge: usize,

@@ -9,14 +9,14 @@ ghost use Rattle.lines.specs.Reads.{keyed, behind_of, opened_of, in_range};
 use text::{Cursor, Fault, Numeral, Refusal};
 
 // A number and the place of the next line.
-#[derive(Drop)]
+#[derive(Clone, Copy)]
 pub enum Field {
     Value(usize, Cursor),
     Refused(Refusal),
 }
 
 // A list that was read and stored: the place of the next line.
-#[derive(Drop)]
+#[derive(Clone, Copy)]
 pub enum Listed {
     Next(Cursor),
     Refused(Refusal),
@@ -25,14 +25,14 @@ pub enum Listed {
 // ---- the reader
 
 // A reader: the job text, and the place in it of the line that comes next.
-#[derive(Drop)]
+#[derive(Clone, Copy)]
 pub struct Reader<'a> {
     pub text: &'a [u8],
     pub place: Cursor,
 }
 
 // The next line of the text: whether it has the key, and the place behind the key, one line further.
-#[derive(Drop)]
+#[derive(Clone, Copy)]
 pub struct Opened {
     pub there: bool,
     pub place: Cursor,

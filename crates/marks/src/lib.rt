@@ -11,7 +11,7 @@ pub const STAMP: u32 = 4096;
 pub const WAYS: usize = 8;
 
 // What marking a bit of a tile found.
-#[derive(Drop)]
+#[derive(Clone, Copy)]
 pub enum Put {
     // it was marked already, and nothing changed
     Twice,

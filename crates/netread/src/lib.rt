@@ -18,7 +18,7 @@ use known::Known;
 use layout::Shape;
 
 // What was read of a net again: its lowest tile, and how many entries its `edges` line has.
-#[derive(Drop)]
+#[derive(Clone, Copy)]
 pub struct Again {
     pub low: usize,
     pub entries: usize,

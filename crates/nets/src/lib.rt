@@ -25,14 +25,14 @@ use pins::{Pins, PinsRead};
 use text::{Cursor, Fault, Refusal};
 
 // The lines of a net: the place after them, and the entries of its `edges` line.
-#[derive(Drop)]
+#[derive(Clone, Copy)]
 pub enum NetRead {
     Net(Cursor, usize),
     Refused(Refusal),
 }
 
 // The lines of all nets: the place after them, and the entries of all `edges` lines.
-#[derive(Drop)]
+#[derive(Clone, Copy)]
 pub enum NetsRead {
     Nets(Cursor, usize),
     Refused(Refusal),
@@ -56,7 +56,7 @@ fn net_line(s: &[u8], c: Cursor, turn: usize) -> Listed
 }
 
 // The lowest wanted layer of a net, 0 where it has no line `low`, and the place of the next line.
-#[derive(Drop)]
+#[derive(Clone, Copy)]
 pub enum LowRead {
     Low(u32, Cursor),
     Refused(Refusal),
@@ -93,7 +93,7 @@ fn net_pins(s: &[u8], c: Cursor, w: &mut [u32], g: Shape, stamp: u32) -> PinsRea
 }
 
 // A row of the net table: of net i, counted from 0, whose layers go from `first` on in the answer list.
-#[derive(Drop)]
+#[derive(Clone, Copy)]
 pub struct Row {
     pub i: usize,
     pub first: usize,

@@ -21,7 +21,7 @@ use known::Known;
 use layout::Shape;
 
 // alpha, beta and gamma of a job; and the stamp under which its first net is marked where its rings are cut again, after which each net has one of its own.
-#[derive(Drop)]
+#[derive(Clone, Copy)]
 pub struct Weights {
     pub alpha: u64,
     pub beta: u64,
@@ -30,7 +30,7 @@ pub struct Weights {
 }
 
 // D and C of a net: the sums of d(e) and c(e) over its edges.
-#[derive(Drop)]
+#[derive(Clone, Copy)]
 pub struct Density {
     pub demand: u64,
     pub capacity: u64,

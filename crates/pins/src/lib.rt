@@ -14,7 +14,7 @@ use marks::Put;
 use text::{Cursor, Fault, Item, Refusal};
 
 // What the entries of a line have shown so far: in how many tiles they are, all inside the grid, one of them twice.
-#[derive(Drop)]
+#[derive(Clone, Copy)]
 pub struct Seen {
     pub tiles: usize,
     pub inside: bool,
@@ -22,14 +22,14 @@ pub struct Seen {
 }
 
 // The entries of a `pins` line: where they stand, and in how many tiles they are.
-#[derive(Drop)]
+#[derive(Clone, Copy)]
 pub struct Pins {
     pub from: usize,
     pub tiles: usize,
 }
 
 // A `pins` line that was read, and the place of the next line.
-#[derive(Drop)]
+#[derive(Clone, Copy)]
 pub enum PinsRead {
     Line(Pins, Cursor),
     Refused(Refusal),

@@ -15,7 +15,7 @@ ghost use Rattle.placing.specs.Turns.{row_of, RowTurn, RowTurnSome, RowDone, Sta
 use turn::{Frame, NetAt};
 
 // Of a net: where its entries stand in the text, where its layers begin in the answer list, how many they are, and whether some of them were dropped.
-#[derive(Drop)]
+#[derive(Clone, Copy)]
 pub struct NetRow {
     pub pins: usize,
     pub edges: usize,
@@ -40,7 +40,7 @@ fn row_of(table: &[u32], i: usize) -> NetRow
 }
 
 // The turn of a net, counted from 0, and the stamp under which it is read.
-#[derive(Drop)]
+#[derive(Clone, Copy)]
 pub struct NetTurn {
     pub frame: Frame,
     pub net: usize,
@@ -79,7 +79,7 @@ fn turn_of(
 }
 
 // What is to be placed: how many nets, and what is the same at every turn.
-#[derive(Drop)]
+#[derive(Clone, Copy)]
 pub struct ToPlace {
     pub frame: Frame,
     pub nets: usize,

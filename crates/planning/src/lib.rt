@@ -19,14 +19,14 @@ use text::Refusal;
 use turn::Frame;
 
 // A text that is read: a job whose nets are scored, or its refusal.
-#[derive(Drop)]
+#[derive(Clone, Copy)]
 pub enum Opened {
     Job(Head),
     Refused(Refusal),
 }
 
 // Total vias, total and maximum of the plan.
-#[derive(Drop)]
+#[derive(Clone, Copy)]
 pub struct Totals {
     pub vias: u64,
     pub total: u64,
@@ -34,14 +34,14 @@ pub struct Totals {
 }
 
 // What Plan returns.
-#[derive(Drop)]
+#[derive(Clone, Copy)]
 pub enum Planned {
     Plan(Totals),
     Refused(Refusal),
 }
 
 // What Print returns: the same, and the length of its text.
-#[derive(Drop)]
+#[derive(Clone, Copy)]
 pub enum Printed {
     Print(Totals, usize),
     Refused(Refusal),

@@ -123,7 +123,7 @@ fn put_totals(b: &mut [u8], at: usize, vias: u64, total: u64, most: u64) -> usiz
 }
 
 // "printed as a last line `ldof`, in jobs that have a `low` line"
-#[derive(Drop)]
+#[derive(Clone, Copy)]
 pub enum Ldof {
     Absent,
     Sum(u64),
@@ -140,7 +140,7 @@ fn put_ldof(b: &mut [u8], at: usize, last: Ldof) -> usize
 }
 
 // The numbers of a plan: how many nets it has, its totals, and the last line.
-#[derive(Drop)]
+#[derive(Clone, Copy)]
 pub struct Counts {
     pub nets: usize,
     pub vias: u64,

@@ -18,14 +18,14 @@ use nets::NetsRead;
 use text::{Cursor, Fault, Refusal};
 
 // The print buffer that is lent: its length, or none for Plan.
-#[derive(Drop)]
+#[derive(Clone, Copy)]
 pub enum PrintRoom {
     Absent,
     Bytes(usize),
 }
 
 // What is lent beside the working numbers: the lengths of the order list and of the answer list, and the print buffer.
-#[derive(Drop)]
+#[derive(Clone, Copy)]
 pub struct Lists {
     pub order: usize,
     pub answer: usize,
@@ -33,7 +33,7 @@ pub struct Lists {
 }
 
 // An accepted job: what its head says.
-#[derive(Drop)]
+#[derive(Clone, Copy)]
 pub enum JobRead {
     Job(Head),
     Refused(Refusal),

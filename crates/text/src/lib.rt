@@ -8,14 +8,14 @@ ghost use Rattle.text.specs.Items.{entry_of};
 ghost use Rattle.text.specs.Refusals.{fault_number, number_of, line_of};
 
 // The reading place: where the next line starts, and how many lines were read.
-#[derive(Drop)]
+#[derive(Clone, Copy)]
 pub struct Cursor {
     pub at: usize,
     pub line: usize,
 }
 
 // A fault of one line.
-#[derive(Drop)]
+#[derive(Clone, Copy)]
 pub enum Fault {
     Form,
     Range,
@@ -28,7 +28,7 @@ pub enum Fault {
 }
 
 // What refuses a job: its number and its line are `number_of` and `line_of`.
-#[derive(Drop)]
+#[derive(Clone, Copy)]
 pub enum Refusal {
     TooLong,
     Line(Fault, usize),
@@ -38,21 +38,21 @@ pub enum Refusal {
 }
 
 // A number and the place after it.
-#[derive(Drop)]
+#[derive(Clone, Copy)]
 pub enum Numeral {
     Value(usize, usize),
     Malformed,
 }
 
 // Two numbers with a comma behind each, and the place after them.
-#[derive(Drop)]
+#[derive(Clone, Copy)]
 pub enum Pair {
     Values(usize, usize, usize),
     Other,
 }
 
 // An entry of three parts and the place after the byte behind it, a semicolon or byte 10. Of an edge the third part is 0 for east and 1 for north.
-#[derive(Drop)]
+#[derive(Clone, Copy)]
 pub enum Entry {
     More(usize, usize, usize, usize),
     Last(usize, usize, usize, usize),
@@ -60,7 +60,7 @@ pub enum Entry {
 }
 
 // An entry taken apart, so that a loop over entries goes on in one way: whether there is one, and whether it is the last of its line.
-#[derive(Drop)]
+#[derive(Clone, Copy)]
 pub struct Item {
     pub good: bool,
     pub last: bool,

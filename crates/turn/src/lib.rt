@@ -19,7 +19,7 @@ use flat::Limits;
 use layout::Shape;
 
 // A net's entries stand at `pins` and `edges` of the text, and it is read under this stamp; whether some of its entries were dropped.
-#[derive(Drop)]
+#[derive(Clone, Copy)]
 pub struct NetAt {
     pub pins: usize,
     pub edges: usize,
@@ -28,7 +28,7 @@ pub struct NetAt {
 }
 
 // What is the same at every turn: the grid, and the limits on one layer's overflow.
-#[derive(Drop)]
+#[derive(Clone, Copy)]
 pub struct Frame {
     pub shape: Shape,
     pub limits: Limits,

@@ -11,7 +11,7 @@ ghost use Rattle.walk.specs.Walked.{Walks, WalkReady, Walked};
 use layout::Shape;
 
 // A tile that is taken out: its marks, and the edge above it.
-#[derive(Drop)]
+#[derive(Clone, Copy)]
 pub struct Stop {
     pub tile: usize,
     pub marks: u32,

@@ -13,7 +13,7 @@ use layout::{Shape, Way};
 use marks::Put;
 
 // What marking an edge found: it is marked already, or how many of its two tiles had no mark.
-#[derive(Drop)]
+#[derive(Clone, Copy)]
 pub enum Ends {
     Twice,
     New(usize),

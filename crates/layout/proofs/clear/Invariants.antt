@@ -1,0 +1,15 @@
+-- `clear` meets its contract. The loop's invariant: the first i numbers are 0, and the rest is as it was.
+-- Assumes nothing.
+use mathlib.Core.List.{◌++◌, append-nil}
+use mathlib.Core.Path.{◌≡◌, refl, ◌∙◌}
+use Prim.Native.Nat.{◌-◌, ◌≤◌}
+use native.Mathlib.Omega.{arith}
+use lib.ListN.{length, drop, replicate, length-set, drop_of_length-le}
+use borrow.Author.Fill.{fill_more}
+use Rattle.layout.proofs.clear.Given as goal
+
+abbrev pub invariant-loop-i : goal.invariant-loop-i
+invariant-loop-i l = (l.i ≤ length l.initial.w) × (length l.w ≡ length l.initial.w) × (l.w ≡ replicate l.i 0 ++ drop l.i l.initial.w)
+
+abbrev pub decreases-loop-i : goal.decreases-loop-i
+decreases-loop-i l = length l.initial.w - l.i

@@ -1,0 +1,13 @@
+-- Both halves are read where they stand.
+use mathlib.Core.Path.{ap, ap₂, ◌∙◌}
+use Prim.Native.Nat.{ℕ, ◌+◌, ◌*◌, ◌/◌}
+use lib.ListN.{get_or}
+use Rattle.std.proofs.Common.{rules}
+use Rattle.layout.proofs.score_in.Goals as goal
+
+pub returns : goal.returns
+returns c =
+    let a = c.args in
+    ap₂ (λ (x y : ℕ). x + 4294967296 * y)
+    (c.wide-low.ensures.0 ∙ ap (λ (k : ℕ). get_or a.table.now k 0) c.tiles_column.ensures.value)
+    (c.wide-high.ensures.0 ∙ ap (λ (k : ℕ). get_or a.table.now k 0 / 16) c.vias_column.ensures.value)
