@@ -125,6 +125,9 @@ class Function:
         callee = self.places[i][3]
         renames = dict(self.places[i][4])
         first, rest = path[0], path[1:]
+        if rest and rest[0] == "last":
+            rest = ["new", *rest[1:]]
+            path = [first, *rest]
         if self.places[i][1] is None:
             if first == "pre":
                 first, rest = ("requires", rest) if not rest else ("requires", rest)
@@ -229,8 +232,8 @@ class Turner:
         while path and path[0] == "before":
             up = self.f.parent(place)
             if up is None:
-                self.said.append(f"no parent of {self.f.places[place][0]}")
-                break
+                path = path[1:]
+                continue
             place, path = up, path[1:]
         if not path:
             return Alias(alias.base, alias.at, place)
@@ -240,7 +243,21 @@ class Turner:
             new = self.f.step(i, path)
             if new is None:
                 i = self.f.parent(i)
+        if new is None and self.f.places[place][1] is None:
+            pass
+        if new is None or i is not None and self.f.places[i][1] is None and path[0] not in ("args", "requires", "pre", "ranges", "lifetimes", "well_formed"):
+            # the older records had a place more on the way: the step has one name on it
+            i = self.goal_place(alias)
+            while i is not None:
+                new = self.f.step(i, path) if self.f.places[i][1] is not None else None
+                if new is not None:
+                    break
+                i = self.f.parent(i)
+            if new is None and path[0] in ("args", "requires", "pre", "ranges", "lifetimes", "well_formed"):
+                i = 0
+                new = self.f.step(0, path)
         if new is None:
+            self.said.append("no step " + ".".join(path))
             new = path
         at = i if i is not None else place
         if self.f.places[at][1] is None:
@@ -249,9 +266,18 @@ class Turner:
         elif alike(path[0]) == alike(self.f.places[at][2][0]):
             several = self.f.callees.get(self.f.places[at][3]) or self.f.arm_callee(at) or {}
             tail = path[2:] if len(path) > 1 else []
-            if len(path) == 1 or path[1] == "new" and all(it == "1" for it in tail) or path[1] == "ensures" and len(several.get("ensures", [])) - 1 > len(tail) and all(it == "1" for it in tail) or self.partial(at, path):
+            if len(path) == 1 or path[1] in ("new", "last") and all(it == "1" for it in tail) or path[1] == "ensures" and len(several.get("ensures", [])) - 1 > len(tail) and all(it == "1" for it in tail) or self.partial(at, path):
                 return Alias(alias.base, alias.at, at, path)
         return alias.base + "." + ".".join(new)
+
+    def goal_place(self, alias):
+        kind, at = alias.at
+        if kind == "place":
+            return at
+        for k, (_, new) in enumerate(self.f.t["needs"]):
+            if new == at:
+                return self.f.goal_place(k)
+        return alias.place
 
     def partial(self, i, path):
         """Whether the path ends inside what an arm takes apart."""
@@ -490,7 +516,9 @@ def turn_file(path, fn, f):
             continue
         m = decl.match(code)
         if code.startswith("module _"):
-            helpers.append((note, turn_module(code, t, f, said)))
+            section = turn_module(code, t, f, said)
+            if section:
+                helpers.append((note, section))
             continue
         if not m:
             helpers.append((note, t.term(code, {}).rstrip() + "\n"))
@@ -553,7 +581,7 @@ def turn_file(path, fn, f):
 
 def clause_record(term, goal, f):
     """An answer that is a tuple, for a goal of several clauses: a record with their names."""
-    names = f.t.get("asked", {}).get(goal)
+    names = f.t.get("asked", {}).get(next((old for old, new in f.t["needs"] if new == goal), goal))
     if not names:
         return term
     names = [it for it in names]
@@ -741,6 +769,8 @@ def turn_module(code, t, f, said):
     for n in list(scope):
         pass
     text = "\n\n".join(out)
+    if not text.strip():
+        return ""
     return f"module _ {' '.join(kept)} where\n" + "\n".join("  " + line if line.strip() else line for line in text.split("\n")) + "\n"
 
 
