@@ -89,6 +89,30 @@ def parts(text):
     return [it.strip() for it in out if it.strip()]
 
 
+def alone(text, i, k):
+    """Whether text[i:k] is a whole entry of a tactic's list."""
+    after = text[k:].lstrip()[:1]
+    if after and after not in ",)":
+        return False
+    deep, j = 0, i - 1
+    first = True
+    while j >= 0:
+        ch = text[j]
+        if ch in ")]}":
+            deep += 1
+        elif ch in "([{":
+            if deep == 0:
+                return bool(re.search(r"\b(omega|search|grind)\s*$", text[:j]))
+            deep -= 1
+        elif ch == "," and deep == 0:
+            first = False
+        elif first and not ch.isspace() and deep == 0:
+            return False
+        j -= 1
+    # the list's brackets were taken off, its first entry is there
+    return not first and text.lstrip().startswith(("arith", "rules", "tests"))
+
+
 class Place:
     def __init__(self, of, i):
         self.of, self.i = of, i
@@ -291,13 +315,32 @@ class Turner:
         whole = [p for _, s, p in arm[2] if alike(s) == alike(old) and p]
         return any(len(rest) < len(p) and p[: len(rest)] == rest for p in whole) and not any(rest[: len(p)] == p for p in whole)
 
-    def show(self, alias):
+    def show(self, alias, whole=False):
         if alias.path:
+            left = self.several(alias)
+            if left:
+                if whole:
+                    return ", ".join(f"{alias.base}.{it}" for it in left)
+                return "(" + ", ".join(f"{alias.base}.{it}" for it in left) + ")"
             new = self.f.step(alias.place, list(alias.path)) or list(alias.path)
             if len(alias.path) > 1 and alias.path[-1] not in ("ensures", "requires", "new"):
                 self.said.append("open path " + ".".join(alias.path))
             return alias.base + "." + ".".join(new)
         return self.cast(alias)
+
+    def several(self, alias):
+        """The clauses that a path as requires.1 stands for."""
+        path = list(alias.path)
+        if self.f.places[alias.place][1] is None and path[0] in ("requires", "pre") and self.f.contract:
+            names, n, head = self.f.contract["requires"], len(path) - 1, "requires"
+        elif len(path) > 1 and path[1] == "ensures":
+            callee = self.f.callees.get(self.f.places[alias.place][3]) or self.f.arm_callee(alias.place)
+            if not callee:
+                return None
+            names, n, head = callee["ensures"], len(path) - 2, (self.f.step(alias.place, path[:1]) or path)[0] + ".ensures"
+        else:
+            return None
+        return [f"{head}.{it}" for it in names[n:]] if 0 <= n < len(names) and len(names) > 1 and all(names) else None
 
     def term(self, text, scope):
         out, i = [], 0
@@ -323,7 +366,7 @@ class Turner:
                     arg = self.place_of(m[2].strip(), scope)
                     if arg is not None:
                         got = self.follow(self.view(m[1], arg), path)
-                        out.append(got if isinstance(got, str) else self.show(got))
+                        out.append(got if isinstance(got, str) else self.show(got, alone(text, i, k)))
                         i = k
                         continue
                 got = self.place_of(inner, scope)
@@ -346,16 +389,33 @@ class Turner:
                 if word in ("λ",) or word.startswith("λ"):
                     # a binder hides an alias
                     j = i
-                    k = text.index(". ", i) if ". " in text[i:] else len(text)
+                    dot = re.compile(r"\.\s").search(text, i)
+                    k = dot.start() if dot else len(text) - 1
                     bound = set(re.findall(ID, text[i + 1 : k]))
                     inner = {n: a for n, a in scope.items() if n not in bound}
                     out.append(text[i : k + 1])
                     out.append(self.term(text[k + 1 :], inner))
                     return "".join(out)
                 path, k = self.path(text, m.end())
+                label = not path and re.match(r"\s+=\s", text[m.end() :]) and re.search(r"[{;]\s*$", text[:i])
+                if label:
+                    out.append(word)
+                    i = m.end()
+                    continue
+                if word in self.helpers and not path:
+                    # its argument is the record that it was written for
+                    skip = re.compile(r"\s*").match(text, m.end()).end()
+                    arg = re.compile(ID).match(text, skip)
+                    j = closing(text, skip) if text[skip : skip + 1] == "(" else arg.end() if arg else skip
+                    _, j = self.path(text, j)
+                    got = self.place_of(text[skip:j], scope) if j > skip else None
+                    if got is not None:
+                        out.append(f"{word} {self.cast(Alias(got.base, got.at, self.helpers[word]))}")
+                        i = j
+                        continue
                 if word in scope:
                     got = self.follow(scope[word], path)
-                    out.append(got if isinstance(got, str) else self.show(got))
+                    out.append(got if isinstance(got, str) else self.show(got, alone(text, i, k)))
                     i = k
                     continue
                 if word in self.answers and not path:
@@ -431,7 +491,7 @@ class Turner:
             j += 1
         value, rest = text[m.end() : j].strip(), text[j + 2 :]
         got = self.place_of(value, scope)
-        if got is not None and not m[2]:
+        if got is not None and (not m[2] or re.match(r"\s*:\s*tie\.", m[2])):
             return self.term(rest.lstrip(), {**scope, m[1]: got})
         inner = {n: a for n, a in scope.items() if n != m[1]}
         kind = self.term(m[2], scope) if m[2] else ""
@@ -483,13 +543,17 @@ def turn_file(path, fn, f):
     rest = body[: spec.start()] + body[end:].replace("\n)", "\n").strip()
     rest = re.sub(r"\s*\)\s*\Z", "\n", rest) if body[end:].strip() == ")" else rest
     loops, needs = f.t["loops"], f.t["needs"]
-    n_inv = len(args) - len(needs)
+    typed = dict(re.findall(rf"^(?:(?:abbrev|pub|unfoldable) )*({ID}) : tie\.({ID})", rest, re.M))
+    n_inv = 0
+    while n_inv < len(args) and re.match(r"(invariant|decreases)-", typed.get(args[n_inv], "")):
+        n_inv += 1
     said = []
-    if n_inv < 0 or n_inv > 2 * len(loops):
-        said.append(f"{len(args)} answers for {len(needs)} goals and {len(loops)} loops")
     t = Turner(f)
-    invs = args[: max(n_inv, 0)]
-    given = args[max(n_inv, 0) :]
+    invs = args[:n_inv]
+    given = args[n_inv:]
+    if len(given) != len(needs):
+        given = aligned(given, needs, typed)
+        said.append(f"{len(args) - n_inv} answers for {len(needs)} goals")
     named = {}
     for k, arg in enumerate(given):
         if k < len(needs):
@@ -499,7 +563,7 @@ def turn_file(path, fn, f):
             t.answers[arg] = needs[ks[0]][1]
     blocks = declarations(rest)
     invariants, helpers, answers = [], [], {}
-    decl = re.compile(rf"^(?P<marks>(?:abbrev |unfoldable |pub )*)(?P<name>{ID}) : (?P<type>.*?)\n(?P<un>unfolding[^\n]*\n)?(?P<body>.*)\Z", re.S)
+    decl = re.compile(rf"^(?P<marks>(?:abbrev |unfoldable |pub )*)(?P<name>{ID}) : (?P<type>.*?)\n(?P<un>unfolding[^\n]*\n)?(?P<body>(?P=name)(?=\s).*)\Z", re.S)
 
     def comment(block):
         m = re.match(r"(?:--[^\n]*\n|\n)*", block)
@@ -534,7 +598,7 @@ def turn_file(path, fn, f):
             for k in ks:
                 answers[k] = (note, turn_answer(m, name, needs[k][1], f.goal_place(k), f, t, said))
             continue
-        pl = re.match(rf"\(({ID}) : tie\.({ID})((?: (?:invariant|decreases)-\S+)*)\) → (.*)\Z", m["type"].strip(), re.S)
+        pl = re.match(rf"\(({ID}) : tie\.({ID})((?: (?:invariant|decreases)-\S+)*)\)\s+→ (.*)\Z", m["type"].strip(), re.S)
         if pl and f.place(pl[2]) is not None:
             at = f.place(pl[2])
             t.helpers[name] = at
@@ -577,6 +641,23 @@ def turn_file(path, fn, f):
         answers[k] = ("", f"pub {needs[k][1]} : goal.{needs[k][1]}\n{needs[k][1]} = {t.term(arg, {})}\n")
     said += t.said
     return {"head": head, "uses": uses, "invariants": invariants, "helpers": helpers, "answers": answers, "imports": t.imports}, said
+
+
+def aligned(given, needs, typed):
+    """The answers in step with the goals: those that asked only for a search are left out where today's checker settles the goal by itself."""
+    from itertools import combinations
+
+    more = len(given) - len(needs)
+    if more < 0:
+        return given
+    easy = [k for k, it in enumerate(given) if re.fullmatch(r"\(λ c(?: κs)?\. (?:search rules|omega arith|refl|tt)\)", it)]
+    best = None
+    for out in combinations(easy[:24], more):
+        left = [it for k, it in enumerate(given) if k not in out]
+        hits = sum(1 for it, (old, _) in zip(left, needs) if it in typed and alike(typed[it]).endswith(alike(old)))
+        if best is None or hits > best[0]:
+            best = (hits, left)
+    return best[1] if best else given
 
 
 def clause_record(term, goal, f):
@@ -706,7 +787,7 @@ def turn_invariant(m, name, f, t, said):
             if w:
                 word = w[0]
                 if word.startswith("λ"):
-                    k = text.index(". ", i)
+                    k = re.compile(r"\.\s").search(text, i).start()
                     bound = set(re.findall(ID, text[i + 1 : k]))
                     out.append(text[i : k + 1])
                     out.append(sub(text[k + 1 :], {a: b for a, b in swap.items() if a not in bound}))
