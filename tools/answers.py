@@ -175,7 +175,7 @@ class Function:
             own = next((field for field, step, path2 in arm[2] if alike(step) == alike(old) and not path2), None)
             if own:
                 return [arm[0], own, *rest]
-        if rest and rest[0] in ("taken", "left"):
+        if rest and rest[0] in ("taken", "left") and (re.match(r"if\d", old) or old.endswith("-test")):
             rest = [{"taken": "true", "left": "false"}[rest[0]], *rest[1:]]
         if rest and rest[0] in renames:
             rest = [renames[rest[0]], *rest[1:]]
@@ -792,7 +792,8 @@ def turn_invariant(m, name, f, t, said):
                     out.append(text[i : k + 1])
                     out.append(sub(text[k + 1 :], {a: b for a, b in swap.items() if a not in bound}))
                     return "".join(out)
-                out.append(swap[word] if word in swap and (i == 0 or text[i - 1] != ".") else word)
+                label = re.match(r"\s+=\s", text[w.end() :]) and re.search(r"[{;]\s*$", text[:i])
+                out.append(swap[word] if word in swap and not label and (i == 0 or text[i - 1] != ".") else word)
                 i = w.end()
                 continue
             out.append(text[i])
@@ -863,6 +864,25 @@ def plain_tests(text):
     return RAW.sub(lambda m: m[1] + m[2], text)
 
 
+def in_order(answers):
+    """The answers, each below those that it cites."""
+    name = {k: re.match(r"pub (\S+) :", b)[1] for k, (_, b) in answers.items()}
+    done, out = set(), []
+
+    def add(k):
+        if k in done:
+            return
+        done.add(k)
+        for other in sorted(answers):
+            if other != k and re.search(rf"(?<![\w.'-]){re.escape(name[other])} [(c]", answers[k][1]):
+                add(other)
+        out.append(answers[k])
+
+    for k in sorted(answers):
+        add(k)
+    return out
+
+
 DROPPED = re.compile(r"Statement\.\{statement\}|\.Tie as tie|Author\.Rules\.\{rules\}")
 
 
@@ -910,7 +930,7 @@ def main():
                 o.write(plain_tests("\n".join((n + "\n" if n else "") + b for n, b in got["helpers"])))
                 if got["helpers"]:
                     o.write("\n")
-                o.write(plain_tests("\n".join((n + "\n" if n else "") + b for _, (n, b) in sorted(got["answers"].items()))))
+                o.write(plain_tests("\n".join((n + "\n" if n else "") + b for n, b in in_order(got["answers"]))))
         if said:
             print(f"{fn}: {'; '.join(dict.fromkeys(said))}")
 

@@ -1,0 +1,23 @@
+-- `all_layers` meets its contract.
+-- Assumes nothing.
+use mathlib.Core.Path.{◌≡◌, refl, sym, ◌∙◌}
+use Prim.Native.Nat.{◌+◌, ◌-◌, ◌*◌, ◌≤◌}
+use native.Mathlib.Nat.{sub-zero}
+use lib.ListN.{length}
+use Rattle.model.specs.Read.{capacity_lines}
+use Rattle.layout.specs.Dirs.{dirs_of}
+use Rattle.text.specs.Refusals.{place_of}
+use Rattle.lines.specs.Told.{mapped, list-after}
+use Rattle.lines.specs.declared.Listed.TheVariants.{Next, Refused as Unlisted}
+use Rattle.capacities.specs.Capacities.{spread_all}
+use Rattle.capacities.proofs.Layers.{caps-refused, caps-next, caps-done, caps-told}
+use native.Mathlib.Omega.{arith}
+use Rattle.capacities.proofs.all_layers.Given as goal
+
+abbrev pub invariant-loop-layer : goal.invariant-loop-layer
+invariant-loop-layer l = (l.c.at ≤ length l.s) × (l.c.line ≡ l.initial.c.line + 2 * l.layer) × (l.layer ≤ l.g.k) × (length l.w ≡ length l.initial.w)
+    × (mapped (spread_all l.g.k l.initial.w 0) (capacity_lines l.g.w l.g.h (dirs_of l.g.k l.g.dirs) 1 l.g.k (place_of l.s l.initial.c))
+    ≡ mapped (spread_all l.g.k l.w l.layer) (capacity_lines l.g.w l.g.h (dirs_of l.g.k l.g.dirs) (l.layer + 1) (l.g.k - l.layer) (place_of l.s l.c)))
+
+abbrev pub decreases-loop-layer : goal.decreases-loop-layer
+decreases-loop-layer l = l.g.k - l.layer

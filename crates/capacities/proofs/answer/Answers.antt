@@ -1,0 +1,13 @@
+-- `answer` meets its contract.
+-- Assumes nothing.
+
+use Rattle.std.proofs.Common.{rules}
+use Rattle.capacities.proofs.answer.Goals as goal
+
+pub returns-then-inside : goal.returns-then-inside
+returns-then-inside c =
+    rw c.if-inside.true
+
+pub returns : goal.returns
+returns c =
+    rw c.if-inside.false

@@ -1,0 +1,10 @@
+-- `add_mark` meets its contract.
+-- Assumes nothing.
+use Rattle.netread.proofs.Adds.{bit_added}
+use Rattle.std.proofs.Common.{rules}
+use Rattle.netread.proofs.add_mark.Goals as goal
+
+pub returns : goal.returns
+returns c =
+    let x = c.args in
+    λ i h e. bit_added x.stamp x.a.now x.t c.requires.fits i h c.larger-kept.result x.b c.larger-kept.ensures e
