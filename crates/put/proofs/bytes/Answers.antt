@@ -1,13 +1,11 @@
 -- `bytes` meets its contract. The loop's invariant: the numbers left, written from here, give all behind the first.
 -- Assumes nothing.
-use mathlib.Core.Path.{◌≡◌, refl, ◌∙◌}
-use Prim.Native.Nat.{◌+◌, ◌-◌, ◌≤◌, ◌<◌}
+use mathlib.Core.Path.{refl, ◌∙◌}
+use Prim.Native.Nat.{◌<◌}
 use native.Mathlib.Omega.{arith}
-use lib.ListN.{length, drop}
-use Rattle.put.specs.Lists.{others}
-use Rattle.put.specs.Wrote.{Left, wrote-long, left-start}
+use lib.ListN.{length}
+use Rattle.put.specs.Wrote.{wrote-long, left-start}
 use Rattle.put.proofs.Steps.{list-none, first-room, others-room, list-whole, turn-room, turn_more, others-done}
-use Rattle.std.proofs.Common.{rules}
 use Rattle.put.proofs.bytes.Goals as goal
 
 pub returns-then-xs-eq0 : goal.returns-then-xs-eq0

@@ -1,12 +1,10 @@
 -- `bytes` meets its contract. The loop's invariant: the numbers left, written from here, give all behind the first.
 -- Assumes nothing.
-use mathlib.Core.Path.{◌≡◌, refl, ◌∙◌}
-use Prim.Native.Nat.{◌+◌, ◌-◌, ◌≤◌, ◌<◌}
-use native.Mathlib.Omega.{arith}
+use mathlib.Core.Path.{◌≡◌}
+use Prim.Native.Nat.{◌+◌, ◌-◌, ◌≤◌}
 use lib.ListN.{length, drop}
 use Rattle.put.specs.Lists.{others}
-use Rattle.put.specs.Wrote.{Left, wrote-long, left-start}
-use Rattle.put.proofs.Steps.{list-none, first-room, others-room, list-whole, turn-room, turn_more, others-done}
+use Rattle.put.specs.Wrote.{Left}
 use Rattle.put.proofs.bytes.Given as goal
 
 abbrev pub invariant-loop-i : goal.invariant-loop-i

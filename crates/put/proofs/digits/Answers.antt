@@ -3,7 +3,6 @@
 use native.Mathlib.Omega.{arith}
 use Rattle.put.specs.Lists.{digits-most}
 use Rattle.put.proofs.Steps.{one-long, two-long, three-long, four-long, four-more}
-use Rattle.std.proofs.Common.{rules}
 use Rattle.put.proofs.digits.Goals as goal
 
 pub returns-then-n-lt10 : goal.returns-then-n-lt10

@@ -1,13 +1,10 @@
 -- `digits_at` meets its contract. The loop's invariant: the digits of what is left, written from the start, give the whole.
 -- Assumes nothing.
-use mathlib.Core.Path.{◌≡◌, refl, sym, ◌∙◌}
-use Prim.Native.Nat.{◌+◌, ◌≤◌}
+use mathlib.Core.Path.{refl, sym, ◌∙◌}
+use Prim.Native.Nat.{◌≤◌}
 use native.Mathlib.Omega.{arith}
-use lib.ListN.{length, length-set}
-use lib.Seq.{sets}
-use Rattle.model.specs.Text.{decimal}
+use lib.ListN.{length-set}
 use Rattle.put.proofs.Steps.{tenth-long, one-long, digit-more, digit-one}
-use Rattle.std.proofs.Common.{rules}
 use Rattle.put.proofs.digits_at.Goals as goal
 
 pub loop-left-init : goal.loop-left-init

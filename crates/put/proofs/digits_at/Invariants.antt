@@ -1,12 +1,10 @@
 -- `digits_at` meets its contract. The loop's invariant: the digits of what is left, written from the start, give the whole.
 -- Assumes nothing.
-use mathlib.Core.Path.{◌≡◌, refl, sym, ◌∙◌}
+use mathlib.Core.Path.{◌≡◌}
 use Prim.Native.Nat.{◌+◌, ◌≤◌}
-use native.Mathlib.Omega.{arith}
-use lib.ListN.{length, length-set}
+use lib.ListN.{length}
 use lib.Seq.{sets}
 use Rattle.model.specs.Text.{decimal}
-use Rattle.put.proofs.Steps.{tenth-long, one-long, digit-more, digit-one}
 use Rattle.put.proofs.digits_at.Given as goal
 
 abbrev pub invariant-loop-left : goal.invariant-loop-left

@@ -1,13 +1,8 @@
 -- `digits_divided` meets its contract. The loop's invariant: the digits counted, and those of what is left.
 -- Assumes nothing.
-use mathlib.Core.Path.{◌≡◌}
-use Prim.Native.Nat.{◌+◌}
 use native.Mathlib.Omega.{arith}
-use lib.ListN.{length}
-use Rattle.model.specs.Text.{decimal}
 use Rattle.put.specs.Lists.{digits-most}
 use Rattle.put.proofs.Steps.{tenth-long, one-long}
-use Rattle.std.proofs.Common.{rules}
 use Rattle.put.proofs.digits_divided.Goals as goal
 
 pub overflow_add-count : goal.overflow_add-count

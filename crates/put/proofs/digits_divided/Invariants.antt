@@ -2,11 +2,8 @@
 -- Assumes nothing.
 use mathlib.Core.Path.{◌≡◌}
 use Prim.Native.Nat.{◌+◌}
-use native.Mathlib.Omega.{arith}
 use lib.ListN.{length}
 use Rattle.model.specs.Text.{decimal}
-use Rattle.put.specs.Lists.{digits-most}
-use Rattle.put.proofs.Steps.{tenth-long, one-long}
 use Rattle.put.proofs.digits_divided.Given as goal
 
 abbrev pub invariant-loop-left : goal.invariant-loop-left

@@ -3,7 +3,6 @@
 use mathlib.Core.List.{[], ◌∷◌}
 use Rattle.model.specs.Text.{decimal}
 use Rattle.put.specs.Wrote.{room-one, room-two, room-three, wrote_then}
-use Rattle.std.proofs.Common.{rules}
 use Rattle.put.proofs.line.Goals as goal
 
 pub text-value-requires : goal.text-value-requires

@@ -5,7 +5,6 @@ use native.Mathlib.Omega.{arith}
 use Rattle.theory.specs.links.Decimals.{decimal-one}
 use Rattle.put.specs.Wrote.{wrote_as}
 use Rattle.put.proofs.Steps.{one-long}
-use Rattle.std.proofs.Common.{rules}
 use Rattle.put.proofs.number.Goals as goal
 
 pub byte-requires : goal.byte-requires

@@ -1,12 +1,8 @@
 -- `text` meets its contract. The loop's invariant: what is left of the text, written from here, gives the whole.
 -- Assumes nothing.
-use mathlib.Core.Path.{◌≡◌, refl}
-use Prim.Native.Nat.{◌+◌, ◌-◌, ◌≤◌}
+use mathlib.Core.Path.{refl}
 use native.Mathlib.Omega.{arith}
-use lib.ListN.{length, drop}
-use Rattle.put.specs.Wrote.{Left}
 use Rattle.put.proofs.Steps.{text-start, text-more, text-done}
-use Rattle.std.proofs.Common.{rules}
 use Rattle.put.proofs.text.Goals as goal
 
 pub loop-i-init : goal.loop-i-init

@@ -1,11 +1,9 @@
 -- `text` meets its contract. The loop's invariant: what is left of the text, written from here, gives the whole.
 -- Assumes nothing.
-use mathlib.Core.Path.{◌≡◌, refl}
+use mathlib.Core.Path.{◌≡◌}
 use Prim.Native.Nat.{◌+◌, ◌-◌, ◌≤◌}
-use native.Mathlib.Omega.{arith}
 use lib.ListN.{length, drop}
 use Rattle.put.specs.Wrote.{Left}
-use Rattle.put.proofs.Steps.{text-start, text-more, text-done}
 use Rattle.put.proofs.text.Given as goal
 
 abbrev pub invariant-loop-i : goal.invariant-loop-i
