@@ -1,4 +1,6 @@
 // Bytes, numbers and lines written into a lent buffer. Every function writes a text from a place on, and returns the place behind it.
+#![tactic(auto)]
+
 ghost use Rattle.std.specs.Prelude.{[], ◌∷◌, ◌≡◌, ◌+◌, ◌*◌, ◌≤◌, ◌<◌, length, get_or};
 ghost use Rattle.std.proofs.lemmas.List.Edits.{sets};
 ghost use Rattle.model.specs.Text.{decimal, decimals};

@@ -123,7 +123,7 @@ module _ (m l : ℕ) (h : m < 256) (p : 1 ≤ l) (q : l ≤ 8) where
     where
       go : (k : ℕ) → 1 ≤ k → k ≤ 8 → T (has m k) ⊎ T (eqb (k - 1) (l - 1)) → In k (l ∷ xs)
       go k a b (inl t) = in_tail k l xs (s.into k a b t)
-      go k a b (inr t) = let e : k ≡ l = omega (arith, eqb→eq (k - 1) (l - 1) t) in rw e (in_head l xs)
+      go k a b (inr t) = let e : k ≡ l = omega (arith, eqb→eq (k - 1) (l - 1) t) in subst (λ (x : ℕ). In x (l ∷ xs)) (sym e) (in_head l xs)
 
       back_at : (k : ℕ) → In k (l ∷ xs) → (1 ≤ k) × (k ≤ 8) → T (has (with_layer m l) k)
       back_at k i c =

@@ -1,4 +1,6 @@
 // Sets of layers as masks, with digit l - 1 for layer l, and what a tile with such a set costs.
+#![tactic(auto)]
+
 ghost use Rattle.std.specs.Prelude.{◌≡◌, suc, ◌-◌, ◌<◌, ◌≤◌, length};
 ghost use Rattle.sets.specs.Mask.{with_layer, span_of, top, bottom, Charted, Rowed};
 
