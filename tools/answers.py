@@ -133,8 +133,15 @@ class Function:
         i = self.index.get(alike(name))
         return i
 
+    def whole(self, i):
+        """The place of the whole arm, for one of the steps in which an arm is taken apart."""
+        arms = self.t.get("arms") or []
+        if i < len(arms) and arms[i]:
+            return max(k for k, it in enumerate(arms) if it and it[0] == arms[i][0])
+        return i
+
     def new_place(self, i):
-        return self.t["places_by_name"][i]
+        return self.t["places_by_name"][self.whole(i)]
 
     def parent(self, i):
         up = self.places[i][1]
@@ -182,14 +189,14 @@ class Function:
         if callee and rest:
             if rest[0] == "ensures":
                 rest = ["ensures", *self.labelled("ensures", self.callees.get(callee), rest[1:])]
-            if rest[0] == "new" and len(rest) > 1:
+            if rest[0] in ("new", "auto") and len(rest) > 1:
                 n, k = 0, 1
                 while k < len(rest) and rest[k] == "1":
                     n, k = n + 1, k + 1
                 if k < len(rest) and rest[k] == "0":
                     ps = self.t.get("params", {}).get(callee) or (self.callees.get(callee) or {}).get("params")
                     if ps and n < len(ps):
-                        rest = ["new", ps[n], *rest[k + 1 :]]
+                        rest = [rest[0], ps[n], *rest[k + 1 :]]
         if rest and rest[0] == "inv":
             rest = ["invariant", *rest[1:]]
         return [new, *rest]
@@ -238,7 +245,7 @@ class Turner:
 
     def cast(self, alias):
         """The term for a place, to be handed to a helper."""
-        if alias.at == ("place", alias.place):
+        if alias.at[0] == "place" and self.f.whole(alias.at[1]) == self.f.whole(alias.place):
             return alias.base
         self.imports.add(self.f.new_place(alias.place))
         kind, name = alias.at
@@ -655,6 +662,9 @@ def aligned(given, needs, typed):
     for out in combinations(easy[:24], more):
         left = [it for k, it in enumerate(given) if k not in out]
         hits = sum(1 for it, (old, _) in zip(left, needs) if it in typed and alike(typed[it]).endswith(alike(old)))
+        hits += sum(1 for it, (old, _) in zip(left, needs) if it.startswith("(λ") and (" κs." in it.split("\n")[0]) == bool(re.search(r"-requires(-\d+)?$", old)))
+        # a range that is passed to a call is asked right before what the call requires
+        hits += sum(0.5 for k in out if k + 1 < len(given) and (" κs." in given[k + 1].split("\n")[0] or re.search(r"-requires", typed.get(given[k + 1], ""))))
         if best is None or hits > best[0]:
             best = (hits, left)
     return best[1] if best else given

@@ -35,11 +35,10 @@ overflow_add-at c =
     omega (arith, room_small c.args.of.k c.loop-left.at (length c.args.w.now) c.loop-left.left (more (goal.at.overflow_add-at c).In-loop-left) c.loop-left.invariant.0)
 
 pub loop-left-preserved : goal.loop-left-preserved
-loop-left-preserved c =
-    (
-      room_next c.args.of.k c.loop-left.at (length c.args.w.now) c.loop-left.left (more (goal.at.loop-left-preserved c).In-loop-left) c.loop-left.invariant.0,
-      c.loop-left.invariant.1 ∙ zeros-next c.args.of.k c.args.w.now c.loop-left.at c.loop-left.left (more (goal.at.loop-left-preserved c).In-loop-left) c.if-w-at-ne0.false,
-    )
+loop-left-preserved c = (
+  room_next c.args.of.k c.loop-left.at (length c.args.w.now) c.loop-left.left (more (goal.at.loop-left-preserved c).In-loop-left) c.loop-left.invariant.0,
+  c.loop-left.invariant.1 ∙ zeros-next c.args.of.k c.args.w.now c.loop-left.at c.loop-left.left (more (goal.at.loop-left-preserved c).In-loop-left) c.if-w-at-ne0.false,
+)
 
 pub returns : goal.returns
 returns c =

@@ -22,5 +22,9 @@ list-requires c =
 
 pub returns : goal.returns
 returns c =
-    let a = c.args in record { result_after = c.list.ensures.result_after
-          ∙ sym (capacities-key a.s.now a.c a.key.now c.requires.at_in_bounds.2 c.open_line-o.result c.open_line-o.ensures a.to.k a.to.count a.w.now a.to.first (not-false _ c.if-not-o.false)); list_in = subst (λ (m : ℕ). list_in (length a.s.now) m c.list.result) (ap (λ (x : Opened). x.place.line) c.open_line-o.ensures) c.list.ensures.list_in; w_len_unchanged = c.list.ensures.w_len_unchanged }
+    let a = c.args in record {
+      result_after = c.list.ensures.result_after
+          ∙ sym (capacities-key a.s.now a.c a.key.now c.requires.at_in_bounds.2 c.open_line-o.result c.open_line-o.ensures a.to.k a.to.count a.w.now a.to.first (not-false _ c.if-not-o.false));
+      list_in = subst (λ (m : ℕ). list_in (length a.s.now) m c.list.result) (ap (λ (x : Opened). x.place.line) c.open_line-o.ensures) c.list.ensures.list_in;
+      w_len_unchanged = c.list.ensures.w_len_unchanged;
+    }

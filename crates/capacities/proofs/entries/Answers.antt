@@ -99,5 +99,9 @@ shape_of-w c =
 pub returns : goal.returns
 returns c =
     let a = c.args in
-    let e = sym c.ended-2.ensures ∙ c.in-Value-ended.is in record { result_after = last_told a.s.now a.to.k c.loop-r.w c.loop-r.r c.loop-r.invariant.stands c.loop-r-test.false a.c.line c.in-Value-ended.v c.in-Value-ended.next c.put-all.result c.put-all.new.w e c.put-all.ensures.value c.put-all.ensures.w_after c.answer-2.result c.answer-2.ensures
-          ∙ sym (same_answer (goal.at.returns c).At-loop-r); list_in = last_in a.s.now a.to.k c.loop-r.w c.loop-r.r c.loop-r.invariant.stands c.loop-r-test.false a.c.line c.in-Value-ended.v c.in-Value-ended.next c.put-all.result c.put-all.new.w e c.put-all.ensures.value c.put-all.ensures.w_after c.answer-2.result c.answer-2.ensures; w_len_unchanged = shape_of-w (goal.at.returns c).After-answer-2 }
+    let e = sym c.ended-2.ensures ∙ c.in-Value-ended.is in record {
+      result_after = last_told a.s.now a.to.k c.loop-r.w c.loop-r.r c.loop-r.invariant.stands c.loop-r-test.false a.c.line c.in-Value-ended.v c.in-Value-ended.next c.put-all.result c.put-all.new.w e c.put-all.ensures.value c.put-all.ensures.w_after c.answer-2.result c.answer-2.ensures
+          ∙ sym (same_answer (goal.at.returns c).At-loop-r);
+      list_in = last_in a.s.now a.to.k c.loop-r.w c.loop-r.r c.loop-r.invariant.stands c.loop-r-test.false a.c.line c.in-Value-ended.v c.in-Value-ended.next c.put-all.result c.put-all.new.w e c.put-all.ensures.value c.put-all.ensures.w_after c.answer-2.result c.answer-2.ensures;
+      w_len_unchanged = shape_of-w (goal.at.returns c).After-answer-2;
+    }

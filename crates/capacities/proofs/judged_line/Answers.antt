@@ -14,15 +14,15 @@ use Rattle.capacities.specs.Spread.{spread, Room}
 use Rattle.capacities.proofs.Judged.{first-true, either_true, neither-true, judged-refused, judged-fine, judged-closed}
 use Rattle.std.proofs.Common.{rules}
 use Rattle.capacities.proofs.judged_line.Goals as goal
-use Rattle.capacities.proofs.judged_line.Goals.{In-Next-2}
+use Rattle.capacities.proofs.judged_line.Goals.{In-Next}
 
 -- the line is read and stored
-module _ (c : In-Next-2) where
+module _ (c : In-Next) where
   behind : After (length c.args.s.now) (c.args.c.line + 1) c.in-Next.d
   behind = list-after c.capacity_line.result (length c.args.s.now) (c.args.c.line + 1) c.in-Next.d c.in-Next.is c.capacity_line.ensures.list_in
 
 -- and as it should be, or not
-module _ (d : In-Next-2) where
+module _ (d : In-Next) where
   abbrev x : List ℕ
   x = d.capacity_line.new.w
 
@@ -47,7 +47,7 @@ module _ (d : In-Next-2) where
 
 pub returns-then-along : goal.returns-then-along
 returns-then-along c =
-    record { result_after = fine (goal.at.returns-then-along c).In-Next-2 (first-true _ _ c.if-along.true); list_in = behind (goal.at.returns-then-along c).In-Next-2; w_len_unchanged = c.capacity_line.ensures.w_len_unchanged }
+    record { result_after = fine (goal.at.returns-then-along c).In-Next (first-true _ _ c.if-along.true); list_in = behind (goal.at.returns-then-along c).In-Next; w_len_unchanged = c.capacity_line.ensures.w_len_unchanged }
 
 pub all_zero-requires : goal.all_zero-requires
 all_zero-requires c =
@@ -55,13 +55,17 @@ all_zero-requires c =
 
 pub returns-then-all_zero : goal.returns-then-all_zero
 returns-then-all_zero c =
-    record { result_after = fine (goal.at.returns-then-all_zero c).In-Next-2 (either_true c.args.along _ (sym c.all_zero.ensures ∙ c.if-all_zero.true)); list_in = behind (goal.at.returns-then-all_zero c).In-Next-2; w_len_unchanged = c.capacity_line.ensures.w_len_unchanged }
+    record { result_after = fine (goal.at.returns-then-all_zero c).In-Next (either_true c.args.along _ (sym c.all_zero.ensures ∙ c.if-all_zero.true)); list_in = behind (goal.at.returns-then-all_zero c).In-Next; w_len_unchanged = c.capacity_line.ensures.w_len_unchanged }
 
 pub returns-in-Refused : goal.returns-in-Refused
 returns-in-Refused c =
-    let a = c.args in record { result_after = judged-refused a.s.now c.capacity_line.new.w a.to.k a.w.now a.to.first a.to.count c.requires.room a.key.now a.along (place_of a.s.now a.c) c.capacity_line.result c.capacity_line.ensures.result_after
-          c.in-Refused.r c.in-Refused.is; list_in = tt; w_len_unchanged = c.capacity_line.ensures.w_len_unchanged }
+    let a = c.args in record {
+      result_after = judged-refused a.s.now c.capacity_line.new.w a.to.k a.w.now a.to.first a.to.count c.requires.room a.key.now a.along (place_of a.s.now a.c) c.capacity_line.result c.capacity_line.ensures.result_after
+          c.in-Refused.r c.in-Refused.is;
+      list_in = tt;
+      w_len_unchanged = c.capacity_line.ensures.w_len_unchanged;
+    }
 
 pub returns-else-all_zero : goal.returns-else-all_zero
 returns-else-all_zero c =
-    record { result_after = closed (goal.at.returns-else-all_zero c).In-Next-2 (neither-true c.args.along _ c.if-along.false (sym c.all_zero.ensures ∙ c.if-all_zero.false)); list_in = tt; w_len_unchanged = c.capacity_line.ensures.w_len_unchanged }
+    record { result_after = closed (goal.at.returns-else-all_zero c).In-Next (neither-true c.args.along _ c.if-along.false (sym c.all_zero.ensures ∙ c.if-all_zero.false)); list_in = tt; w_len_unchanged = c.capacity_line.ensures.w_len_unchanged }

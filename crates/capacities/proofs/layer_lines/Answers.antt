@@ -11,10 +11,10 @@ use Rattle.capacities.proofs.Layers.{east-part, east-room, north-room, layer-ref
 use native.Mathlib.Omega.{arith}
 use Rattle.std.proofs.Common.{rules}
 use Rattle.capacities.proofs.layer_lines.Goals as goal
-use Rattle.capacities.proofs.layer_lines.Goals.{In-Next-2}
+use Rattle.capacities.proofs.layer_lines.Goals.{In-Next}
 
 -- the line `east` is read
-module _ (d : In-Next-2) where
+module _ (d : In-Next) where
   eastward : d.runs-eastward.result ≡ runs (dirs_of d.args.g.k d.args.g.dirs) 0 (d.args.layer + 1)
   eastward = d.runs-eastward.ensures d.args.g.k d.requires.layer_lt_k.0
 
@@ -36,28 +36,32 @@ pub judged_line-requires : goal.judged_line-requires
 judged_line-requires c =
     record { at_in_bounds = (c.requires.at_in_bounds.0, omega (arith, c.requires.at_in_bounds.1), refl); room = east-room c.args.g c.requires.shaped (length c.args.w.now) c.args.layer c.requires.layer_lt_k.0 c.requires.layer_lt_k.1 }
 
-pub enum_known-d : goal.enum_known-d
-enum_known-d c =
-    omega (arith, east-part c.args.g c.requires.shaped, c.requires.shaped.all_most)
-
 pub overflow_mul-north : goal.overflow_mul-north
 overflow_mul-north c =
-    omega (arith, east-part c.args.g c.requires.shaped, c.requires.shaped.all_most, c.requires.layer_lt_k.0, c.requires.shaped.k_most)
+    omega (arith, east-part c.args.g c.requires.shaped, c.requires.shaped.all_most)
 
 pub overflow_add-north : goal.overflow_add-north
 overflow_add-north c =
+    omega (arith, east-part c.args.g c.requires.shaped, c.requires.shaped.all_most, c.requires.layer_lt_k.0, c.requires.shaped.k_most)
+
+pub overflow_sub-north : goal.overflow_sub-north
+overflow_sub-north c =
     omega (arith, c.requires.shaped.east_most)
 
 pub judged_line-requires-in-Next : goal.judged_line-requires-in-Next
 judged_line-requires-in-Next c =
-    record { at_in_bounds = ((behind (goal.at.judged_line-requires-in-Next c).In-Next-2).place, omega (arith, (behind (goal.at.judged_line-requires-in-Next c).In-Next-2).lines, c.requires.at_in_bounds.1), refl); room = north-room c.args.g c.requires.shaped (length c.judged_line.new.w) c.args.layer c.requires.layer_lt_k.0 (omega (arith, c.requires.layer_lt_k.1, c.judged_line.ensures.w_len_unchanged)) }
+    record { at_in_bounds = ((behind (goal.at.judged_line-requires-in-Next c).In-Next).place, omega (arith, (behind (goal.at.judged_line-requires-in-Next c).In-Next).lines, c.requires.at_in_bounds.1), refl); room = north-room c.args.g c.requires.shaped (length c.judged_line.new.w) c.args.layer c.requires.layer_lt_k.0 (omega (arith, c.requires.layer_lt_k.1, c.judged_line.ensures.w_len_unchanged)) }
 
 pub returns-in-Refused : goal.returns-in-Refused
 returns-in-Refused c =
-    let a = c.args in record { result_after = layer-refused a.s.now a.c a.g c.requires.shaped a.w.now c.judged_line.new.w a.layer c.judged_line.result c.runs-eastward.result c.runs-northward.result
-          (c.runs-eastward.ensures a.g.k c.requires.layer_lt_k.0) (c.runs-northward.ensures a.g.k c.requires.layer_lt_k.0) c.judged_line.ensures.result_after c.in-Refused.r c.in-Refused.is; list_in = tt; w_len_unchanged = c.judged_line.ensures.w_len_unchanged }
+    let a = c.args in record {
+      result_after = layer-refused a.s.now a.c a.g c.requires.shaped a.w.now c.judged_line.new.w a.layer c.judged_line.result c.runs-eastward.result c.runs-northward.result
+          (c.runs-eastward.ensures a.g.k c.requires.layer_lt_k.0) (c.runs-northward.ensures a.g.k c.requires.layer_lt_k.0) c.judged_line.ensures.result_after c.in-Refused.r c.in-Refused.is;
+      list_in = tt;
+      w_len_unchanged = c.judged_line.ensures.w_len_unchanged;
+    }
 
 pub returns-in-Next : goal.returns-in-Next
 returns-in-Next c =
     let a = c.args in
-    let k : a.c.line + 2 ≡ c.in-Next.d.line + 1 = omega (arith, (behind (goal.at.returns-in-Next c).In-Next-2).lines) in record { result_after = layer-both a.s.now a.c a.g c.requires.shaped a.w.now c.judged_line.new.w a.layer c.judged_line.result c.runs-eastward.result c.runs-northward.result (eastward (goal.at.returns-in-Next c).In-Next-2) (northward (goal.at.returns-in-Next c).In-Next-2) c.judged_line.ensures.result_after c.in-Next.d (list_told a.s.now c.judged_line-in-Next.new.w c.judged_line-in-Next.result) c.in-Next.is c.judged_line-in-Next.ensures.result_after; list_in = rw k c.judged_line-in-Next.ensures.list_in; w_len_unchanged = c.judged_line-in-Next.ensures.w_len_unchanged ∙ c.judged_line.ensures.w_len_unchanged }
+    let k : a.c.line + 2 ≡ c.in-Next.d.line + 1 = omega (arith, (behind (goal.at.returns-in-Next c).In-Next).lines) in record { result_after = layer-both a.s.now a.c a.g c.requires.shaped a.w.now c.judged_line.new.w a.layer c.judged_line.result c.runs-eastward.result c.runs-northward.result (eastward (goal.at.returns-in-Next c).In-Next) (northward (goal.at.returns-in-Next c).In-Next) c.judged_line.ensures.result_after c.in-Next.d (list_told a.s.now c.judged_line-in-Next.new.w c.judged_line-in-Next.result) c.in-Next.is c.judged_line-in-Next.ensures.result_after; list_in = rw k c.judged_line-in-Next.ensures.list_in; w_len_unchanged = c.judged_line-in-Next.ensures.w_len_unchanged ∙ c.judged_line.ensures.w_len_unchanged }

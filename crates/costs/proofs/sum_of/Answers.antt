@@ -1,0 +1,26 @@
+-- `sum_of` meets its contract.
+-- Assumes nothing.
+use mathlib.Core.Path.{refl}
+use Prim.Native.Nat.{◌+◌, ◌-◌}
+use native.Mathlib.Omega.{arith}
+use lib.ListN.{get_or}
+use Rattle.costs.specs.Rows.{Eight}
+use Rattle.costs.proofs.Steps.{eight-none, eight-more, eight-all}
+use Rattle.std.proofs.Common.{rules}
+use Rattle.costs.proofs.sum_of.Goals as goal
+
+pub loop-l-init : goal.loop-l-init
+loop-l-init c =
+    eight-none _ _ _ refl
+
+pub overflow_add-c : goal.overflow_add-c
+overflow_add-c c =
+    omega (arith, c.requires.small c.loop-l.l (omega arith), c.requires.small_2 c.loop-l.l (omega arith))
+
+pub loop-l-preserved : goal.loop-l-preserved
+loop-l-preserved c =
+    eight-more _ _ _ _ _ (omega arith) refl c.loop-l.invariant
+
+pub returns : goal.returns
+returns c =
+    eight-all _ _ _ _ _ (omega arith) c.loop-l.invariant
