@@ -15,7 +15,7 @@ import re
 import sys
 
 ID = r"[^\s(){}.;,@\"«»\[\]\\`]+"
-alike = lambda it: re.sub(r"[-_]", "", it)
+alike = lambda it: re.sub(r"[-_]", "", it).lower()
 
 
 # ---- labels of clauses, from the sources of all crates
@@ -409,13 +409,17 @@ class Turner:
                     out.append(word)
                     i = m.end()
                     continue
-                if word in self.helpers and not path:
+                if (word in self.helpers or word in self.views) and not path and word not in scope:
                     # its argument is the record that it was written for
                     skip = re.compile(r"\s*").match(text, m.end()).end()
                     arg = re.compile(ID).match(text, skip)
                     j = closing(text, skip) if text[skip : skip + 1] == "(" else arg.end() if arg else skip
                     _, j = self.path(text, j)
                     got = self.place_of(text[skip:j], scope) if j > skip else None
+                    if got is not None and word in self.views:
+                        out.append(self.show(self.view(word, got)))
+                        i = j
+                        continue
                     if got is not None:
                         out.append(f"{word} {self.cast(Alias(got.base, got.at, self.helpers[word]))}")
                         i = j
@@ -541,6 +545,8 @@ def turn_file(path, fn, f):
     body = text[len(head) :]
     uses = [line for line in body.split("\n") if line.startswith("use ")]
     body = "\n".join(line for line in body.split("\n") if not line.startswith("use "))
+    if re.search(r"^\s*(?:abbrev )?goal :", body, re.M):
+        body = re.sub(r"(?<![\w.'-])goal(?![\w'-])", "aim", body)
     spec = re.search(rf"pub ({ID}) : \{{M : Type 1\}} → statement M\n(?:unfolding[^\n]*\n)?\1 =\s*tie\.close\s*\(tie\.spec\b", body)
     if not spec:
         return None, "no tie.spec"
@@ -831,13 +837,13 @@ def turn_module(code, t, f, said):
         else:
             kept.append(t.term(group, {q: Alias(q, ("place", a), a) for q, a in places}))
             places.append((None, None))
-    if len(places) > 1 and any(a is not None for _, a in places):
+    if len(places) > 1 and any(a is not None for _, a in places[1:]):
         said.append("section over " + params[:80])
     scope = {n: Alias(n, ("place", at), at) for n, at in places if at is not None}
     if not scope:
         return f"module _ {' '.join(kept)} where\n" + t.term(body, {}).rstrip() + "\n"
     lines = body.split("\n")
-    inner, now = [], []
+    local = set()
     dedent = [line[2:] if line.startswith("  ") else line for line in lines]
     out = []
     for block in declarations("\n".join(dedent)):
@@ -846,15 +852,18 @@ def turn_module(code, t, f, said):
         if not text.strip():
             continue
         d = re.match(rf"((?:abbrev |unfoldable |pub )*)({ID}) : tie\.({ID})[^\n]*\n\2 = (.*)\Z", text, re.S)
-        if d and f.place(d[3]) is not None and len(places) == 1 and t.place_of(d[4].strip(), scope) is not None:
+        if d and f.place(d[3]) is not None and t.place_of(d[4].strip(), scope) is not None:
             got = t.place_of(d[4].strip(), scope)
             scope[d[2]] = got
             t.views[d[2]] = (places[0][1], got.place)
             continue
-        for n in names_of(text.split("\n")):
-            if len(places) == 1:
+        for n in re.findall(rf"^\s*(?:(?:abbrev|unfoldable|pub) )*({ID}) :(?=\s)", text, re.M):
+            if places[0][1] is not None:
                 t.helpers[n] = places[0][1]
+                local.add(n)
+        hidden = {n: t.helpers.pop(n) for n in local if n in t.helpers}
         new = t.term(text, scope).rstrip()
+        t.helpers.update(hidden)
         if "tie." in new:
             said.append("tie left: " + new[:60])
         out.append((note + "\n" if note else "") + new)

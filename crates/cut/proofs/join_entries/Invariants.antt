@@ -1,0 +1,17 @@
+-- `join_entries` meets its contract. The loop's invariant: the entries before the place at hand are joined.
+-- Assumes nothing.
+use mathlib.Core.List.{List, [], ◌∷◌, ◌++◌}
+use Prim.Native.Nat.{ℕ, ◌-◌}
+use native.Mathlib.Omega.{arith}
+use lib.ListN.{length}
+use Rattle.known.specs.Taken.{Taken, taken_start, taken-short, taken-inside, taken-new, taken-last, taken_more, taken-place}
+use Rattle.scan.specs.Pins.{triple}
+use Rattle.ways.specs.Entry.{edge_of}
+use Rattle.cut.specs.Joining.{Joined, joined-start}
+use Rattle.cut.proofs.join_entries.Given as goal
+
+abbrev pub invariant-loop-g : goal.invariant-loop-g
+invariant-loop-g l = Taken l.s l.g l.at l.i (λ es. Joined l.g l.stamp es l.initial.w l.w)
+
+abbrev pub decreases-loop-g : goal.decreases-loop-g
+decreases-loop-g l = length l.s - l.i

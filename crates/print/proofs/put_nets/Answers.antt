@@ -1,0 +1,30 @@
+-- `put_nets` meets its contract. The loop's invariant: the lines of the nets left, written from here, give the whole.
+-- Assumes nothing.
+use Prim.Native.Nat.{◌-◌, ◌≤◌, ◌<◌}
+use native.Mathlib.Omega.{arith}
+use Rattle.print.specs.Texts.{nets_text}
+use Rattle.put.specs.Wrote.{Left}
+use Rattle.print.proofs.Nets.{nets-start, net-room, net-more, nets-end}
+use Rattle.std.proofs.Common.{rules}
+use Rattle.print.proofs.put_nets.Goals as goal
+
+pub loop-i-init : goal.loop-i-init
+loop-i-init c =
+    (omega arith, nets-start c.args.from c.args.table.now c.args.answer.now c.args.b.now c.args.n)
+
+pub put_row-at-requires : goal.put_row-at-requires
+put_row-at-requires c =
+    let h : c.loop-i.i < c.args.n = omega arith in record { row_inside = c.requires.rows c.loop-i.i h; i_in_bounds = net-room c.args.table.now c.args.answer.now c.loop-i.i c.args.n h c.loop-i.invariant.1 c.requires.n_in_bounds }
+
+pub loop-i-preserved : goal.loop-i-preserved
+loop-i-preserved c =
+    let h : c.loop-i.i < c.args.n = omega arith in
+    (omega arith, net-more c.args.table.now c.args.answer.now c.loop-i.i c.args.n h c.loop-i.invariant.1 c.put_row-at.ensures)
+
+pub shape_of-b : goal.shape_of-b
+shape_of-b c =
+    c.loop-i.invariant.1.long
+
+pub returns : goal.returns
+returns c =
+    nets-end c.args.table.now c.args.answer.now c.loop-i.i c.args.n (omega arith) c.loop-i.invariant.1

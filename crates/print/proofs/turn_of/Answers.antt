@@ -1,0 +1,9 @@
+-- `turn_of` meets its contract.
+-- Assumes nothing.
+use Rattle.print.proofs.Nets.{same_place}
+use Rattle.std.proofs.Common.{rules}
+use Rattle.print.proofs.turn_of.Goals as goal
+
+pub returns : goal.returns
+returns c =
+    search (same_place, rules)
