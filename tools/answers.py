@@ -703,7 +703,28 @@ def clause_record(term, goal, f):
     return lets + "record { " + "; ".join(f"{n} = {e}" for n, e in zip(names, out)) + " }"
 
 
+def atom(term):
+    return term if re.fullmatch(rf"{ID}(\.{ID})*", term) or term.startswith("(") and closing(term, 0) == len(term) else f"({term})"
+
+
 def by_projection(term, left, done, names):
+    if re.match(r"(omega|search|grind|cc|simp|rw)\b", term):
+        # the same tactic for each clause, with the clause's own part of what it hands on
+        ws = words(term)
+        tuple_ = len(ws) > 2 and ws[-1].startswith("(") and len(parts(ws[-1][1:-1])) == 2 and ws[0] in ("rw", "simp")
+        fields = [f"{n} = {e}" for n, e in zip(names, done)]
+        rest = ws[-1] if tuple_ else None
+        for k, n in enumerate(left):
+            if rest is None:
+                fields.append(f"{n} = {term}")
+                continue
+            ps = parts(rest[1:-1]) if rest.startswith("(") else [rest]
+            if k < len(left) - 1 and len(ps) == 2:
+                fields.append(f"{n} = {' '.join(ws[:-1])} {atom(ps[0])}")
+                rest = ps[1]
+            else:
+                fields.append(f"{n} = {' '.join(ws[:-1])} {atom(rest)}")
+        return "record { " + "; ".join(fields) + " }"
     fields = [f"{n} = {e}" for n, e in zip(names, done)]
     for k, n in enumerate(left):
         fields.append(f"{n} = (r" + ".1" * k + (".0" if k < len(left) - 1 else "") + ")")

@@ -22,8 +22,8 @@ module _ (z : Start) where
 
 -- it is counted where its edge has its demand
 module _ (e : After-edge_of) where
-  place : e.demand_at.result + e.Edge-of.result ≡ demand_at e.args.g + edge_of e.args.g (entry (goal.at.After-edge_of e).Start)
-  place = ap₂ (λ (x y : ℕ). x + y) e.demand_at.ensures.value e.Edge-of.ensures.0
+  place : e.demand_at.result + e.edge_of.result ≡ demand_at e.args.g + edge_of e.args.g (entry (goal.at.After-edge_of e).Start)
+  place = ap₂ (λ (x y : ℕ). x + y) e.demand_at.ensures.value e.edge_of.ensures.0
 
 pub returns-then-keeps : goal.returns-then-keeps
 returns-then-keeps c =
@@ -33,7 +33,7 @@ returns-then-keeps c =
 
 pub bounds-w-i : goal.bounds-w-i
 bounds-w-i c =
-    omega (arith, place (goal.at.bounds-w-i c).After-edge_of, c.Edge-of.ensures, c.requires.g_in_bounds.0)
+    omega (arith, place (goal.at.bounds-w-i c).After-edge_of, c.edge_of.ensures, c.requires.g_in_bounds.0)
 
 pub overflow_sub-w : goal.overflow_sub-w
 overflow_sub-w c =
@@ -41,7 +41,7 @@ overflow_sub-w c =
 
 pub bounds-w-i-2 : goal.bounds-w-i-2
 bounds-w-i-2 c =
-    omega (arith, place (goal.at.bounds-w-i-2 c).After-edge_of, c.Edge-of.ensures, c.requires.g_in_bounds.0)
+    omega (arith, place (goal.at.bounds-w-i-2 c).After-edge_of, c.edge_of.ensures, c.requires.g_in_bounds.0)
 
 pub returns : goal.returns
 returns c =
@@ -49,8 +49,5 @@ returns c =
     let w = c.args.w.now in
     let i = edge_of g (entry (goal.at.returns c).Start) in
     let v = get_or w (demand_at g + i) 0 - 1 in
-    let known : i < g.e = omega (arith, c.Edge-of.ensures.0, c.Edge-of.ensures.1) in let r = rw (place (goal.at.returns c).After-edge_of) (
-      (λ ps es xs w₀ n drawn so_far.
-          uncounted-drops g es xs w₀ w n so_far i (sym (c.keeps.ensures ps es drawn) ∙ c.if-keeps.false) known (omega (arith, known, c.requires.g_in_bounds.0)) c.requires.bound),
-      (omega arith, outside_wider (demand_at g + i) 1 (demand_at g) g.e w (set w (demand_at g + i) v) (set-outside w (demand_at g + i) v) (omega arith) (omega arith)),
-    ) in record { uncounted = r.0; upper_bound = r.1 }
+    let known : i < g.e = omega (arith, c.edge_of.ensures.0, c.edge_of.ensures.1) in record { uncounted = rw (place (goal.at.returns c).After-edge_of) (λ ps es xs w₀ n drawn so_far.
+          uncounted-drops g es xs w₀ w n so_far i (sym (c.keeps.ensures ps es drawn) ∙ c.if-keeps.false) known (omega (arith, known, c.requires.g_in_bounds.0)) c.requires.bound); upper_bound = rw (place (goal.at.returns c).After-edge_of) (omega arith, outside_wider (demand_at g + i) 1 (demand_at g) g.e w (set w (demand_at g + i) v) (set-outside w (demand_at g + i) v) (omega arith) (omega arith)) }

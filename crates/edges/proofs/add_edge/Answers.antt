@@ -115,13 +115,16 @@ overflow_add-parts c =
 
 pub put_join-requires : goal.put_join-requires
 put_join-requires c =
-    let x = c.args in record { shaped = c.requires.shaped; g_in_bounds = (
+    let x = c.args in record {
+      shaped = c.requires.shaped;
+      g_in_bounds = (
         omega (arith, c.requires.g_in_bounds.0, (marks-out (goal.at.put_join-requires c).In-New).long, counted-long (goal.at.put_join-requires c).After-put_demand),
         here-inside x.g c.requires.shaped x.stamp (entry (goal.at.put_join-requires c).After-way_on-out) (is-inside (goal.at.put_join-requires c).After-way_on-out) (is-way (goal.at.put_join-requires c).After-way_on-out) (here (goal.at.put_join-requires c).After-way_on-out) (there (goal.at.put_join-requires c).After-way_on-out) (edge (goal.at.put_join-requires c).After-way_on-out) (here-is (goal.at.put_join-requires c).After-way_on-out) (there-is (goal.at.put_join-requires c).After-way_on-out) (edge-is (goal.at.put_join-requires c).After-way_on-out),
         there-inside x.g c.requires.shaped x.stamp (entry (goal.at.put_join-requires c).After-way_on-out) (is-inside (goal.at.put_join-requires c).After-way_on-out) (is-way (goal.at.put_join-requires c).After-way_on-out) (here (goal.at.put_join-requires c).After-way_on-out) (there (goal.at.put_join-requires c).After-way_on-out) (edge (goal.at.put_join-requires c).After-way_on-out) (here-is (goal.at.put_join-requires c).After-way_on-out) (there-is (goal.at.put_join-requires c).After-way_on-out) (edge-is (goal.at.put_join-requires c).After-way_on-out),
         c.requires.g_in_bounds.1,
         rw (kept-links x.g x.w.now (counted (goal.at.put_join-requires c).After-put_demand) (second (goal.at.put_join-requires c).In-New) (edge (goal.at.put_join-requires c).After-way_on-out) _ (known (goal.at.put_join-requires c).After-way_on-out) c.put_demand.ensures (marks-out (goal.at.put_join-requires c).In-New)) c.requires.ready.0.links,
-      ) }
+      );
+    }
 
 pub overflow_sub-result : goal.overflow_sub-result
 overflow_sub-result c =
@@ -129,18 +132,30 @@ overflow_sub-result c =
 
 pub returns-then-put_join : goal.returns-then-put_join
 returns-then-put_join c =
-    let x = c.args in record { shown = λ ps w₀ ts s.
+    let x = c.args in record {
+      shown = λ ps w₀ ts s.
           add-joined x.g c.requires.shaped x.stamp (entry (goal.at.returns-then-put_join c).After-way_on-out) (is-inside (goal.at.returns-then-put_join c).After-way_on-out) (is-way (goal.at.returns-then-put_join c).After-way_on-out) (here (goal.at.returns-then-put_join c).After-way_on-out) (there (goal.at.returns-then-put_join c).After-way_on-out) (edge (goal.at.returns-then-put_join c).After-way_on-out) (here-is (goal.at.returns-then-put_join c).After-way_on-out) (there-is (goal.at.returns-then-put_join c).After-way_on-out) (edge-is (goal.at.returns-then-put_join c).After-way_on-out) x.w.now c.requires.g_in_bounds.0 (new (goal.at.returns-then-put_join c).In-New) (found-new (goal.at.returns-then-put_join c).In-New) (counted (goal.at.returns-then-put_join c).After-put_demand) (second (goal.at.returns-then-put_join c).In-New) c.put_join.new.w c.put_demand.ensures (marks-out (goal.at.returns-then-put_join c).In-New) (marks-are (goal.at.returns-then-put_join c).In-New) c.put_join.ensures.outside
-          c.put_join.result c.put_join.ensures.merged x.v.judged c.requires.ready.1 ps w₀ ts x.v.parts (x.v.parts + new (goal.at.returns-then-put_join c).In-New - 1) s c.if-put_join.true (omega (arith, c.requires.ready.0.some_part)); entries_value = refl; w_len_unchanged = steps-long _ _ _ _ _ _ x.w.now (counted (goal.at.returns-then-put_join c).After-put_demand) (second (goal.at.returns-then-put_join c).In-New) c.put_join.new.w c.put_demand.ensures (marks-out (goal.at.returns-then-put_join c).In-New) c.put_join.ensures.outside }
+          c.put_join.result c.put_join.ensures.merged x.v.judged c.requires.ready.1 ps w₀ ts x.v.parts (x.v.parts + new (goal.at.returns-then-put_join c).In-New - 1) s c.if-put_join.true (omega (arith, c.requires.ready.0.some_part));
+      entries_value = refl;
+      w_len_unchanged = steps-long _ _ _ _ _ _ x.w.now (counted (goal.at.returns-then-put_join c).After-put_demand) (second (goal.at.returns-then-put_join c).In-New) c.put_join.new.w c.put_demand.ensures (marks-out (goal.at.returns-then-put_join c).In-New) c.put_join.ensures.outside;
+    }
 
 pub returns-in-Twice : goal.returns-in-Twice
 returns-in-Twice c =
-    record { shown = λ ps w₀ ts s.
+    record {
+      shown = λ ps w₀ ts s.
           add_twice c.args.g c.requires.shaped c.args.stamp (entry (goal.at.returns-in-Twice c).After-way_on-out) (is-inside (goal.at.returns-in-Twice c).After-way_on-out) (is-way (goal.at.returns-in-Twice c).After-way_on-out) (here (goal.at.returns-in-Twice c).After-way_on-out) (there (goal.at.returns-in-Twice c).After-way_on-out) (edge (goal.at.returns-in-Twice c).After-way_on-out) (here-is (goal.at.returns-in-Twice c).After-way_on-out) (there-is (goal.at.returns-in-Twice c).After-way_on-out) (edge-is (goal.at.returns-in-Twice c).After-way_on-out) c.args.w.now c.requires.g_in_bounds.0
-          (sym c.in-Twice.is ∙ said (goal.at.returns-in-Twice c).After-put_marks) c.args.v.judged c.requires.ready.1 ps w₀ ts c.args.v.parts c.args.v.parts c.put_marks.new.w s; entries_value = refl; w_len_unchanged = c.put_marks.ensures.outside.long ∙ counted-long (goal.at.returns-in-Twice c).After-put_demand }
+          (sym c.in-Twice.is ∙ said (goal.at.returns-in-Twice c).After-put_marks) c.args.v.judged c.requires.ready.1 ps w₀ ts c.args.v.parts c.args.v.parts c.put_marks.new.w s;
+      entries_value = refl;
+      w_len_unchanged = c.put_marks.ensures.outside.long ∙ counted-long (goal.at.returns-in-Twice c).After-put_demand;
+    }
 
 pub returns-else-put_join : goal.returns-else-put_join
 returns-else-put_join c =
-    let x = c.args in record { shown = λ ps w₀ ts s.
+    let x = c.args in record {
+      shown = λ ps w₀ ts s.
           add-closed x.g c.requires.shaped x.stamp (entry (goal.at.returns-else-put_join c).After-way_on-out) (is-inside (goal.at.returns-else-put_join c).After-way_on-out) (is-way (goal.at.returns-else-put_join c).After-way_on-out) (here (goal.at.returns-else-put_join c).After-way_on-out) (there (goal.at.returns-else-put_join c).After-way_on-out) (edge (goal.at.returns-else-put_join c).After-way_on-out) (here-is (goal.at.returns-else-put_join c).After-way_on-out) (there-is (goal.at.returns-else-put_join c).After-way_on-out) (edge-is (goal.at.returns-else-put_join c).After-way_on-out) x.w.now c.requires.g_in_bounds.0 (new (goal.at.returns-else-put_join c).In-New) (found-new (goal.at.returns-else-put_join c).In-New) (counted (goal.at.returns-else-put_join c).After-put_demand) (second (goal.at.returns-else-put_join c).In-New) c.put_join.new.w c.put_demand.ensures (marks-out (goal.at.returns-else-put_join c).In-New) (marks-are (goal.at.returns-else-put_join c).In-New) c.put_join.ensures.outside
-          c.put_join.result c.put_join.ensures.merged x.v.judged c.requires.ready.1 ps w₀ ts x.v.parts (x.v.parts + new (goal.at.returns-else-put_join c).In-New) s c.if-put_join.false refl; entries_value = refl; w_len_unchanged = steps-long _ _ _ _ _ _ x.w.now (counted (goal.at.returns-else-put_join c).After-put_demand) (second (goal.at.returns-else-put_join c).In-New) c.put_join.new.w c.put_demand.ensures (marks-out (goal.at.returns-else-put_join c).In-New) c.put_join.ensures.outside }
+          c.put_join.result c.put_join.ensures.merged x.v.judged c.requires.ready.1 ps w₀ ts x.v.parts (x.v.parts + new (goal.at.returns-else-put_join c).In-New) s c.if-put_join.false refl;
+      entries_value = refl;
+      w_len_unchanged = steps-long _ _ _ _ _ _ x.w.now (counted (goal.at.returns-else-put_join c).After-put_demand) (second (goal.at.returns-else-put_join c).In-New) c.put_join.new.w c.put_demand.ensures (marks-out (goal.at.returns-else-put_join c).In-New) c.put_join.ensures.outside;
+    }

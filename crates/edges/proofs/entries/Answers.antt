@@ -46,8 +46,11 @@ pub returns-then-e : goal.returns-then-e
 returns-then-e c =
     let x = c.args in
     let r = c.item_of-e.result in
-    let e = entry-is r (edge_entry_at x.s.now c.loop-g.i) true true (not-false _ c.if-not-e.false) c.if-e.true (c.item_of-e.ensures ∙ c.edge_at-entry.ensures) in record { entries_read = passed-last x.g x.stamp x.parts x.s.now x.c x.w.now c.loop-g.w c.loop-g.i c.loop-g.v c.loop-g.invariant r.x r.y r.z r.next c.put_edge-v.new.w c.put_edge-v.result
-          c.put_edge-v.ensures.w_len_unchanged c.put_edge-v.ensures.entries_value c.put_edge-v.ensures.shown e c.verdict.result c.verdict.ensures; w_len_unchanged = c.put_edge-v.ensures.w_len_unchanged ∙ c.loop-g.invariant.long }
+    let e = entry-is r (edge_entry_at x.s.now c.loop-g.i) true true (not-false _ c.if-not-e.false) c.if-e.true (c.item_of-e.ensures ∙ c.edge_at-entry.ensures) in record {
+      entries_read = passed-last x.g x.stamp x.parts x.s.now x.c x.w.now c.loop-g.w c.loop-g.i c.loop-g.v c.loop-g.invariant r.x r.y r.z r.next c.put_edge-v.new.w c.put_edge-v.result
+          c.put_edge-v.ensures.w_len_unchanged c.put_edge-v.ensures.entries_value c.put_edge-v.ensures.shown e c.verdict.result c.verdict.ensures;
+      w_len_unchanged = c.put_edge-v.ensures.w_len_unchanged ∙ c.loop-g.invariant.long;
+    }
 
 pub loop-g-smaller : goal.loop-g-smaller
 loop-g-smaller c =

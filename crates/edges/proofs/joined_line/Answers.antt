@@ -20,6 +20,9 @@ list-requires c =
 
 pub returns : goal.returns
 returns c =
-    let x = c.args in record { joined_read = λ ps w₀ h r.
+    let x = c.args in record {
+      joined_read = λ ps w₀ h r.
           read-there x.g x.stamp x.s.now x.c c.open_line-o.result c.open_line-o.ensures ps w₀ c.list.new.w c.requires.g_in_bounds.3 (not-false _ c.if-not-o.false)
-          c.list.result (c.list.ensures.entries_read ps w₀ h r); w_len_unchanged = c.list.ensures.w_len_unchanged }
+          c.list.result (c.list.ensures.entries_read ps w₀ h r);
+      w_len_unchanged = c.list.ensures.w_len_unchanged;
+    }

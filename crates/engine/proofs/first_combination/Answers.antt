@@ -107,11 +107,11 @@ loop-c-init c =
 
 pub branch_cost-r-requires : goal.branch_cost-r-requires
 branch_cost-r-requires c =
-    let r = omega (arith, (goal.at.branch_cost-r-requires c).Start, few (goal.at.branch_cost-r-requires c).At-search) in record { k_bound = r.0; first_bound = r.1.0; k_in_bounds = r.1.1 }
+    record { k_bound = omega (arith, (goal.at.branch_cost-r-requires c).Start, few (goal.at.branch_cost-r-requires c).At-search); first_bound = omega (arith, (goal.at.branch_cost-r-requires c).Start, few (goal.at.branch_cost-r-requires c).At-search); k_in_bounds = omega (arith, (goal.at.branch_cost-r-requires c).Start, few (goal.at.branch_cost-r-requires c).At-search) }
 
 pub branch_mask-m3-requires : goal.branch_mask-m3-requires
 branch_mask-m3-requires c =
-    let r = omega (arith, (goal.at.branch_mask-m3-requires c).Start, few (goal.at.branch_mask-m3-requires c).At-search) in record { l_bound = r.0; mask_bound = r.1 }
+    record { l_bound = omega (arith, (goal.at.branch_mask-m3-requires c).Start, few (goal.at.branch_mask-m3-requires c).At-search); mask_bound = omega (arith, (goal.at.branch_mask-m3-requires c).Start, few (goal.at.branch_mask-m3-requires c).At-search) }
 
 pub overflow_sub-t-in-loop-c : goal.overflow_sub-t-in-loop-c
 overflow_sub-t-in-loop-c c =
