@@ -16,8 +16,7 @@ clear_mark-requires c =
 
 pub clear_mark-requires-2 : goal.clear_mark-requires-2
 clear_mark-requires-2 c =
-    let a = c.args in
-    (
+    let a = c.args in (
       omega (arith, c.requires.here_in_bounds.1, ap length c.clear_mark.ensures, unmark-long a.stamp a.a.now a.here (8 + a.d)),
       omega (arith, c.requires.here_in_bounds.2),
       ap (λ (l : List ℕ). marked a.stamp l a.there (8 + back_of a.d)) c.clear_mark.ensures ∙ c.requires.d_value.1,

@@ -27,9 +27,12 @@ module _ (e : After-edge_of) where
 
 pub returns-then-keeps : goal.returns-then-keeps
 returns-then-keeps c =
-    let g = c.args.g in record { uncounted = (λ ps es xs w₀ n drawn so_far.
+    let g = c.args.g in record {
+      uncounted = (λ ps es xs w₀ n drawn so_far.
           subst (Uncounted g es (xs ++ (edge_of g (entry (goal.at.returns-then-keeps c).Start) ∷ [])) w₀ c.args.w.now) (omega arith)
-          (uncounted-keeps g es xs w₀ c.args.w.now n so_far (edge_of g (entry (goal.at.returns-then-keeps c).Start)) (sym (c.keeps.ensures ps es drawn) ∙ c.if-keeps.true))); upper_bound = (omega arith, outside-same (demand_at g) g.e c.args.w.now) }
+          (uncounted-keeps g es xs w₀ c.args.w.now n so_far (edge_of g (entry (goal.at.returns-then-keeps c).Start)) (sym (c.keeps.ensures ps es drawn) ∙ c.if-keeps.true)));
+      upper_bound = (omega arith, outside-same (demand_at g) g.e c.args.w.now);
+    }
 
 pub bounds-w-i : goal.bounds-w-i
 bounds-w-i c =
@@ -49,5 +52,8 @@ returns c =
     let w = c.args.w.now in
     let i = edge_of g (entry (goal.at.returns c).Start) in
     let v = get_or w (demand_at g + i) 0 - 1 in
-    let known : i < g.e = omega (arith, c.edge_of.ensures.0, c.edge_of.ensures.1) in record { uncounted = rw (place (goal.at.returns c).After-edge_of) (λ ps es xs w₀ n drawn so_far.
-          uncounted-drops g es xs w₀ w n so_far i (sym (c.keeps.ensures ps es drawn) ∙ c.if-keeps.false) known (omega (arith, known, c.requires.g_in_bounds.0)) c.requires.bound); upper_bound = rw (place (goal.at.returns c).After-edge_of) (omega arith, outside_wider (demand_at g + i) 1 (demand_at g) g.e w (set w (demand_at g + i) v) (set-outside w (demand_at g + i) v) (omega arith) (omega arith)) }
+    let known : i < g.e = omega (arith, c.edge_of.ensures.0, c.edge_of.ensures.1) in record {
+      uncounted = rw (place (goal.at.returns c).After-edge_of) (λ ps es xs w₀ n drawn so_far.
+          uncounted-drops g es xs w₀ w n so_far i (sym (c.keeps.ensures ps es drawn) ∙ c.if-keeps.false) known (omega (arith, known, c.requires.g_in_bounds.0)) c.requires.bound);
+      upper_bound = rw (place (goal.at.returns c).After-edge_of) (omega arith, outside_wider (demand_at g + i) 1 (demand_at g) g.e w (set w (demand_at g + i) v) (set-outside w (demand_at g + i) v) (omega arith) (omega arith));
+    }

@@ -63,12 +63,18 @@ mark_ways-requires c =
 pub returns-then-put_join : goal.returns-then-put_join
 returns-then-put_join c =
     let g = c.args.g in
-    let marks : tiles_of g c.mark_ways.new.w ≡ both_after c.args.stamp (tiles_of g c.put_join.new.w) (start_of g (entry (goal.at.returns-then-put_join c).Start)) (hi_of g.w g.h (edge_of g (entry (goal.at.returns-then-put_join c).Start))) c.args.e.third = c.mark_ways.ensures.w_after ∙ ap₂ (λ (x y : ℕ). both_after c.args.stamp (tiles_of g c.put_join.new.w) x y c.args.e.third) c.tile_at-here.ensures.0 (there-is (goal.at.returns-then-put_join c).After-way_out-out) in record { by_index = (λ es w₀ new so_far.
+    let marks : tiles_of g c.mark_ways.new.w ≡ both_after c.args.stamp (tiles_of g c.put_join.new.w) (start_of g (entry (goal.at.returns-then-put_join c).Start)) (hi_of g.w g.h (edge_of g (entry (goal.at.returns-then-put_join c).Start))) c.args.e.third = c.mark_ways.ensures.w_after ∙ ap₂ (λ (x y : ℕ). both_after c.args.stamp (tiles_of g c.put_join.new.w) x y c.args.e.third) c.tile_at-here.ensures.0 (there-is (goal.at.returns-then-put_join c).After-way_out-out) in record {
+      by_index = (λ es w₀ new so_far.
           joined-joins g c.requires.shaped c.args.stamp es w₀ c.args.w.now c.put_join.new.w c.requires.g_in_bounds.0 (entry (goal.at.returns-then-put_join c).Start) c.requires.g_in_bounds.3 c.requires.g_in_bounds.2 new so_far
-          c.put_join.result (merged (goal.at.returns-then-put_join c).After-put_join) c.put_join.ensures.outside c.mark_ways.new.w marks c.mark_ways.ensures.outside c.if-put_join.true); w_len_unchanged = c.mark_ways.ensures.outside.long ∙ c.put_join.ensures.outside.long }
+          c.put_join.result (merged (goal.at.returns-then-put_join c).After-put_join) c.put_join.ensures.outside c.mark_ways.new.w marks c.mark_ways.ensures.outside c.if-put_join.true);
+      w_len_unchanged = c.mark_ways.ensures.outside.long ∙ c.put_join.ensures.outside.long;
+    }
 
 pub returns-else-put_join : goal.returns-else-put_join
 returns-else-put_join c =
-    let g = c.args.g in record { by_index = (λ es w₀ new so_far.
+    let g = c.args.g in record {
+      by_index = (λ es w₀ new so_far.
           joined-closes g c.requires.shaped c.args.stamp es w₀ c.args.w.now c.put_join.new.w c.requires.g_in_bounds.0 (entry (goal.at.returns-else-put_join c).Start) c.requires.g_in_bounds.3 c.requires.g_in_bounds.2 new so_far
-          c.put_join.result (merged (goal.at.returns-else-put_join c).After-put_join) c.put_join.ensures.outside c.if-put_join.false); w_len_unchanged = c.put_join.ensures.outside.long }
+          c.put_join.result (merged (goal.at.returns-else-put_join c).After-put_join) c.put_join.ensures.outside c.if-put_join.false);
+      w_len_unchanged = c.put_join.ensures.outside.long;
+    }

@@ -27,5 +27,8 @@ pub returns : goal.returns
 returns c =
     let x = c.args in
     let g = x.g in
-    let edge = edge_of g (triple x.e.x x.e.y x.e.third) in record { listed = rw (c.list_at.ensures.value, c.edge_of-edge.ensures.0) (λ ps es xs w₀ low drawn so_far.
-          rw so_far.count (listed_more g c.requires.shaped es xs low w₀ x.w.now x.v so_far edge (omega (arith, c.requires.g_in_bounds.1, so_far.count)) (omega (arith, c.requires.g_in_bounds.0)) c.kept_low-low.result (c.kept_low-low.ensures ps es drawn))); outside = rw (c.list_at.ensures.value, c.edge_of-edge.ensures.0) (outside_wider (list_at g + x.v.entries) 1 (list_at g) (2 * g.t) x.w.now (set x.w.now (list_at g + x.v.entries) edge) (set-outside x.w.now (list_at g + x.v.entries) edge) (omega arith) (omega (arith, c.requires.g_in_bounds.1, c.requires.shaped.e_tiles))) }
+    let edge = edge_of g (triple x.e.x x.e.y x.e.third) in record {
+      listed = rw (c.list_at.ensures.value, c.edge_of-edge.ensures.0) (λ ps es xs w₀ low drawn so_far.
+          rw so_far.count (listed_more g c.requires.shaped es xs low w₀ x.w.now x.v so_far edge (omega (arith, c.requires.g_in_bounds.1, so_far.count)) (omega (arith, c.requires.g_in_bounds.0)) c.kept_low-low.result (c.kept_low-low.ensures ps es drawn)));
+      outside = rw (c.list_at.ensures.value, c.edge_of-edge.ensures.0) (outside_wider (list_at g + x.v.entries) 1 (list_at g) (2 * g.t) x.w.now (set x.w.now (list_at g + x.v.entries) edge) (set-outside x.w.now (list_at g + x.v.entries) edge) (omega arith) (omega (arith, c.requires.g_in_bounds.1, c.requires.shaped.e_tiles)));
+    }

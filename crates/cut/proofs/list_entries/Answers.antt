@@ -66,8 +66,11 @@ shape_of-w-then-e c =
 
 pub returns-then-e : goal.returns-then-e
 returns-then-e c =
-    record { listing = taken-last c.args.s.now c.args.g c.args.at c.requires.edges_there.0 c.requires.shaped c.loop-g.i (P (goal.at.returns-then-e c).At-loop-g) c.loop-g.invariant c.edge_at-e.result c.edge_at-e.ensures
-          c.if-e.true (Q (goal.at.returns-then-e c).After-list_edge-v) (one_more (goal.at.returns-then-e c).After-list_edge-v); w_len_unchanged = long (goal.at.returns-then-e c).After-list_edge-v }
+    record {
+      listing = taken-last c.args.s.now c.args.g c.args.at c.requires.edges_there.0 c.requires.shaped c.loop-g.i (P (goal.at.returns-then-e c).At-loop-g) c.loop-g.invariant c.edge_at-e.result c.edge_at-e.ensures
+          c.if-e.true (Q (goal.at.returns-then-e c).After-list_edge-v) (one_more (goal.at.returns-then-e c).After-list_edge-v);
+      w_len_unchanged = long (goal.at.returns-then-e c).After-list_edge-v;
+    }
 
 pub loop-g-smaller : goal.loop-g-smaller
 loop-g-smaller c =

@@ -33,26 +33,34 @@ put_pins-low-requires c =
 pub join_entries-requires : goal.join_entries-requires
 join_entries-requires c =
     let x = c.args in
-    let k = c.requires.ring_there in record { shaped = c.requires.shaped; g_in_bounds = (
-          omega (arith, c.requires.g_in_bounds.0, (put (goal.at.join_entries-requires c).After-put_pins-low).out.long),
-          c.requires.g_in_bounds.1,
-          fits-pins x.s.now x.g c.requires.shaped x.pins x.edges k.net k.lines x.stamp x.w.now (w₁ (goal.at.join_entries-requires c).After-put_pins-low) c.requires.g_in_bounds.0 c.requires.g_in_bounds.2 c.requires.g_in_bounds.3 c.put_pins-low.result (put (goal.at.join_entries-requires c).After-put_pins-low),
-          older-links x.s.now x.g c.requires.shaped x.pins x.edges k.net k.lines x.stamp x.w.now (w₁ (goal.at.join_entries-requires c).After-put_pins-low) c.requires.g_in_bounds.0 c.requires.g_in_bounds.2 c.requires.g_in_bounds.3 c.put_pins-low.result (put (goal.at.join_entries-requires c).After-put_pins-low),
-        ); edges_there = (
-          entries-there x.s.now x.g c.requires.shaped x.pins x.edges k.net k.lines,
-          some-entry x.s.now x.g c.requires.shaped x.pins x.edges k.net k.lines,
-        ) }
+    let k = c.requires.ring_there in record {
+      shaped = c.requires.shaped;
+      g_in_bounds = (
+        omega (arith, c.requires.g_in_bounds.0, (put (goal.at.join_entries-requires c).After-put_pins-low).out.long),
+        c.requires.g_in_bounds.1,
+        fits-pins x.s.now x.g c.requires.shaped x.pins x.edges k.net k.lines x.stamp x.w.now (w₁ (goal.at.join_entries-requires c).After-put_pins-low) c.requires.g_in_bounds.0 c.requires.g_in_bounds.2 c.requires.g_in_bounds.3 c.put_pins-low.result (put (goal.at.join_entries-requires c).After-put_pins-low),
+        older-links x.s.now x.g c.requires.shaped x.pins x.edges k.net k.lines x.stamp x.w.now (w₁ (goal.at.join_entries-requires c).After-put_pins-low) c.requires.g_in_bounds.0 c.requires.g_in_bounds.2 c.requires.g_in_bounds.3 c.put_pins-low.result (put (goal.at.join_entries-requires c).After-put_pins-low),
+      );
+      edges_there = (
+        entries-there x.s.now x.g c.requires.shaped x.pins x.edges k.net k.lines,
+        some-entry x.s.now x.g c.requires.shaped x.pins x.edges k.net k.lines,
+      );
+    }
 
 pub strip_net-requires : goal.strip_net-requires
 strip_net-requires c =
     let x = c.args in
-    let k = c.requires.ring_there in record { shaped = c.requires.shaped; g_in_bounds = (
-          omega (arith, c.requires.g_in_bounds.0, (put (goal.at.strip_net-requires c).After-put_pins-low).out.long, c.join_entries.ensures.w_len_unchanged),
-          strippable x.s.now x.g c.requires.shaped x.pins x.edges k.net k.lines x.stamp x.w.now (w₁ (goal.at.strip_net-requires c).After-put_pins-low) c.requires.g_in_bounds.0 c.requires.g_in_bounds.2 c.requires.g_in_bounds.3 c.put_pins-low.result (put (goal.at.strip_net-requires c).After-put_pins-low) (w₂ (goal.at.strip_net-requires c).After-join_entries) (joined (goal.at.strip_net-requires c).After-join_entries),
-        ); edges_there = (
-          entries-there x.s.now x.g c.requires.shaped x.pins x.edges k.net k.lines,
-          some-entry x.s.now x.g c.requires.shaped x.pins x.edges k.net k.lines,
-        ) }
+    let k = c.requires.ring_there in record {
+      shaped = c.requires.shaped;
+      g_in_bounds = (
+        omega (arith, c.requires.g_in_bounds.0, (put (goal.at.strip_net-requires c).After-put_pins-low).out.long, c.join_entries.ensures.w_len_unchanged),
+        strippable x.s.now x.g c.requires.shaped x.pins x.edges k.net k.lines x.stamp x.w.now (w₁ (goal.at.strip_net-requires c).After-put_pins-low) c.requires.g_in_bounds.0 c.requires.g_in_bounds.2 c.requires.g_in_bounds.3 c.put_pins-low.result (put (goal.at.strip_net-requires c).After-put_pins-low) (w₂ (goal.at.strip_net-requires c).After-join_entries) (joined (goal.at.strip_net-requires c).After-join_entries),
+      );
+      edges_there = (
+        entries-there x.s.now x.g c.requires.shaped x.pins x.edges k.net k.lines,
+        some-entry x.s.now x.g c.requires.shaped x.pins x.edges k.net k.lines,
+      );
+    }
 
 pub returns : goal.returns
 returns c =

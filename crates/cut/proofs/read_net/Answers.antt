@@ -20,10 +20,14 @@ mark_net-low-requires c =
 pub list_entries-requires : goal.list_entries-requires
 list_entries-requires c =
     let x = c.args in
-    let k = c.requires.ring_there in record { shaped = c.requires.shaped; g_in_bounds = (omega (arith, c.requires.g_in_bounds.0, (marked (goal.at.list_entries-requires c).After-mark_net-low).around.long), record { pins = k.net.pins; edges = k.net.edges; drawn = (marked (goal.at.list_entries-requires c).After-mark_net-low).drawn }); edges_there = (
-          entries-there x.s.now x.g c.requires.shaped x.pins x.edges k.net k.lines,
-          some-entry x.s.now x.g c.requires.shaped x.pins x.edges k.net k.lines,
-        ) }
+    let k = c.requires.ring_there in record {
+      shaped = c.requires.shaped;
+      g_in_bounds = (omega (arith, c.requires.g_in_bounds.0, (marked (goal.at.list_entries-requires c).After-mark_net-low).around.long), record { pins = k.net.pins; edges = k.net.edges; drawn = (marked (goal.at.list_entries-requires c).After-mark_net-low).drawn });
+      edges_there = (
+        entries-there x.s.now x.g c.requires.shaped x.pins x.edges k.net k.lines,
+        some-entry x.s.now x.g c.requires.shaped x.pins x.edges k.net k.lines,
+      );
+    }
 
 pub returns : goal.returns
 returns c =

@@ -75,8 +75,11 @@ returns-then-d-eq4 c =
 
 pub way_out-out-requires : goal.way_out-out-requires
 way_out-out-requires c =
-    record { shaped = c.requires.shaped; way_room = subst (WayRoom c.args.g c.loop-left.here) (sym (d-is (goal.at.way_out-out-requires c).After-only_way-d))
-          (takes c.args.g c.requires.shaped c.args.stamp c.args.t c.args.a.now c.loop-left.a c.loop-left.here c.requires.a_len.0 (c.loop-left.left - 1) (going (goal.at.way_out-out-requires c).Else-d-eq4) (one (goal.at.way_out-out-requires c).Else-d-eq4)) }
+    record {
+      shaped = c.requires.shaped;
+      way_room = subst (WayRoom c.args.g c.loop-left.here) (sym (d-is (goal.at.way_out-out-requires c).After-only_way-d))
+          (takes c.args.g c.requires.shaped c.args.stamp c.args.t c.args.a.now c.loop-left.a c.loop-left.here c.requires.a_len.0 (c.loop-left.left - 1) (going (goal.at.way_out-out-requires c).Else-d-eq4) (one (goal.at.way_out-out-requires c).Else-d-eq4));
+    }
 
 pub clear_way-requires : goal.clear_way-requires
 clear_way-requires c =

@@ -23,6 +23,9 @@ returns c =
     let room : tiles_at x.g + x.g.t ≤ length x.w.now = omega (arith, c.requires.g_in_bounds.0) in
     let lent = lent-part (tiles_at x.g) x.g.t x.w.now c.tiles_at-from.result c.links_at-to.result c.tiles_at-from.ensures.value c.links_at-to.ensures.value in
     let long : length c.strip_entries.new.a ≡ x.g.t = c.strip_entries.ensures.a_len_unchanged ∙ ap length lent ∙ part-long (tiles_at x.g) x.g.t x.w.now room in
-    let put = put-part (tiles_at x.g) x.g.t x.w.now c.tiles_at-from.result c.links_at-to.result c.tiles_at-from.ensures.value c.links_at-to.ensures.value c.strip_entries.new.a room long in record { stripped = (λ n at.
+    let put = put-part (tiles_at x.g) x.g.t x.w.now c.tiles_at-from.result c.links_at-to.result c.tiles_at-from.ensures.value c.links_at-to.ensures.value c.strip_entries.new.a room long in record {
+      stripped = (λ n at.
           subst (λ (l : List ℕ). Stripped x.g x.stamp (both_tiles x.g n.entries) (tiles_of x.g x.w.now) l) (sym put)
-          (subst (λ (l : List ℕ). Stripped x.g x.stamp (both_tiles x.g n.entries) l c.strip_entries.new.a) lent (c.strip_entries.ensures.stripped n at))); outside = put-outside (tiles_at x.g) x.g.t x.w.now c.tiles_at-from.result c.links_at-to.result c.tiles_at-from.ensures.value c.links_at-to.ensures.value c.strip_entries.new.a room long }
+          (subst (λ (l : List ℕ). Stripped x.g x.stamp (both_tiles x.g n.entries) l c.strip_entries.new.a) lent (c.strip_entries.ensures.stripped n at)));
+      outside = put-outside (tiles_at x.g) x.g.t x.w.now c.tiles_at-from.result c.links_at-to.result c.tiles_at-from.ensures.value c.links_at-to.ensures.value c.strip_entries.new.a room long;
+    }
