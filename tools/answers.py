@@ -708,7 +708,7 @@ def atom(term):
 
 
 def by_projection(term, left, done, names):
-    if re.match(r"(omega|search|grind|cc|simp|rw)\b", term):
+    if re.match(r"(omega|search|grind|cc|simp|rw)(?![\w-])", term):
         # the same tactic for each clause, with the clause's own part of what it hands on
         ws = words(term)
         tuple_ = len(ws) > 2 and ws[-1].startswith("(") and len(parts(ws[-1][1:-1])) == 2 and ws[0] in ("rw", "simp")

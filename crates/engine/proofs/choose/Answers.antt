@@ -48,8 +48,7 @@ choose_below-requires c =
 
 pub loop-i-preserved : goal.loop-i-preserved
 loop-i-preserved c =
-    let g = c.args in
-    (
+    let g = c.args in (
       omega arith,
       omega arith,
       c.choose_below.auto.w ∙ c.loop-i.invariant.2,

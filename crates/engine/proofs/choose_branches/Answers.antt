@@ -48,7 +48,7 @@ module _ (s : Start) (k K : ℕ) (k-is : s.args.k ≡ k) (K-is : s.args.layers �
 
 pub first_combination-l-requires : goal.first_combination-l-requires
 first_combination-l-requires c =
-    record { charted = search-asks (goal.at.first_combination-l-requires c).Start 1 8 (omega arith) (omega arith); k_bound = search-asks (goal.at.first_combination-l-requires c).Start 1 8 (omega arith) (omega arith); base_bound = search-asks (goal.at.first_combination-l-requires c).Start 1 8 (omega arith) (omega arith); le_layers = search-asks (goal.at.first_combination-l-requires c).Start 1 8 (omega arith) (omega arith); first_bound = search-asks (goal.at.first_combination-l-requires c).Start 1 8 (omega arith) (omega arith); k_in_bounds = search-asks (goal.at.first_combination-l-requires c).Start 1 8 (omega arith) (omega arith); attained = search-asks (goal.at.first_combination-l-requires c).Start 1 8 (omega arith) (omega arith) }
+    let r = search-asks (goal.at.first_combination-l-requires c).Start 1 8 (omega arith) (omega arith) in record { charted = r.0; k_bound = r.1.0; base_bound = r.1.1.0; le_layers = r.1.1.1.0; first_bound = r.1.1.1.1.0; k_in_bounds = r.1.1.1.1.1.0; attained = r.1.1.1.1.1.1 }
 
 pub put_layers-requires : goal.put_layers-requires
 put_layers-requires c =
@@ -60,7 +60,7 @@ returns-then-k-eq1 c =
 
 pub first_combination-l-requires-then-k-eq2 : goal.first_combination-l-requires-then-k-eq2
 first_combination-l-requires-then-k-eq2 c =
-    record { charted = search-asks (goal.at.first_combination-l-requires-then-k-eq2 c).Start 2 8 (omega arith) (omega arith); k_bound = search-asks (goal.at.first_combination-l-requires-then-k-eq2 c).Start 2 8 (omega arith) (omega arith); base_bound = search-asks (goal.at.first_combination-l-requires-then-k-eq2 c).Start 2 8 (omega arith) (omega arith); le_layers = search-asks (goal.at.first_combination-l-requires-then-k-eq2 c).Start 2 8 (omega arith) (omega arith); first_bound = search-asks (goal.at.first_combination-l-requires-then-k-eq2 c).Start 2 8 (omega arith) (omega arith); k_in_bounds = search-asks (goal.at.first_combination-l-requires-then-k-eq2 c).Start 2 8 (omega arith) (omega arith); attained = search-asks (goal.at.first_combination-l-requires-then-k-eq2 c).Start 2 8 (omega arith) (omega arith) }
+    let r = search-asks (goal.at.first_combination-l-requires-then-k-eq2 c).Start 2 8 (omega arith) (omega arith) in record { charted = r.0; k_bound = r.1.0; base_bound = r.1.1.0; le_layers = r.1.1.1.0; first_bound = r.1.1.1.1.0; k_in_bounds = r.1.1.1.1.1.0; attained = r.1.1.1.1.1.1 }
 
 pub put_layers-requires-then-k-eq2 : goal.put_layers-requires-then-k-eq2
 put_layers-requires-then-k-eq2 c =
@@ -72,7 +72,7 @@ returns-then-k-eq2 c =
 
 pub first_combination-l-requires-then-k-eq3 : goal.first_combination-l-requires-then-k-eq3
 first_combination-l-requires-then-k-eq3 c =
-    record { charted = search-asks (goal.at.first_combination-l-requires-then-k-eq3 c).Start 3 8 (omega arith) (omega arith); k_bound = search-asks (goal.at.first_combination-l-requires-then-k-eq3 c).Start 3 8 (omega arith) (omega arith); base_bound = search-asks (goal.at.first_combination-l-requires-then-k-eq3 c).Start 3 8 (omega arith) (omega arith); le_layers = search-asks (goal.at.first_combination-l-requires-then-k-eq3 c).Start 3 8 (omega arith) (omega arith); first_bound = search-asks (goal.at.first_combination-l-requires-then-k-eq3 c).Start 3 8 (omega arith) (omega arith); k_in_bounds = search-asks (goal.at.first_combination-l-requires-then-k-eq3 c).Start 3 8 (omega arith) (omega arith); attained = search-asks (goal.at.first_combination-l-requires-then-k-eq3 c).Start 3 8 (omega arith) (omega arith) }
+    let r = search-asks (goal.at.first_combination-l-requires-then-k-eq3 c).Start 3 8 (omega arith) (omega arith) in record { charted = r.0; k_bound = r.1.0; base_bound = r.1.1.0; le_layers = r.1.1.1.0; first_bound = r.1.1.1.1.0; k_in_bounds = r.1.1.1.1.1.0; attained = r.1.1.1.1.1.1 }
 
 pub put_layers-requires-then-k-eq3 : goal.put_layers-requires-then-k-eq3
 put_layers-requires-then-k-eq3 c =
@@ -84,7 +84,7 @@ returns-then-k-eq3 c =
 
 pub first_combination-l-requires-2 : goal.first_combination-l-requires-2
 first_combination-l-requires-2 c =
-    record { charted = search-asks (goal.at.first_combination-l-requires-2 c).Start c.args.k c.args.layers refl refl; k_bound = search-asks (goal.at.first_combination-l-requires-2 c).Start c.args.k c.args.layers refl refl; base_bound = search-asks (goal.at.first_combination-l-requires-2 c).Start c.args.k c.args.layers refl refl; le_layers = search-asks (goal.at.first_combination-l-requires-2 c).Start c.args.k c.args.layers refl refl; first_bound = search-asks (goal.at.first_combination-l-requires-2 c).Start c.args.k c.args.layers refl refl; k_in_bounds = search-asks (goal.at.first_combination-l-requires-2 c).Start c.args.k c.args.layers refl refl; attained = search-asks (goal.at.first_combination-l-requires-2 c).Start c.args.k c.args.layers refl refl }
+    let r = search-asks (goal.at.first_combination-l-requires-2 c).Start c.args.k c.args.layers refl refl in record { charted = r.0; k_bound = r.1.0; base_bound = r.1.1.0; le_layers = r.1.1.1.0; first_bound = r.1.1.1.1.0; k_in_bounds = r.1.1.1.1.1.0; attained = r.1.1.1.1.1.1 }
 
 pub put_layers-requires-2 : goal.put_layers-requires-2
 put_layers-requires-2 c =
