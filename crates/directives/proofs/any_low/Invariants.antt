@@ -1,0 +1,19 @@
+-- `any_low` meets its contract. The loop's invariant: none of the first i nets has a line `low`.
+-- Assumes nothing.
+use mathlib.Core.Bool.{Bool, true, false, cond}
+use mathlib.Core.List.{List}
+use mathlib.Core.Path.{◌≡◌, refl, ap, ◌∙◌, sym}
+use Prim.Native.Nat.{ℕ, suc, ◌+◌, ◌-◌, ◌≤◌, ◌<◌}
+use native.Mathlib.Omega.{arith}
+use borrow.Author.Tests.{lt-ltb, le-ltb}
+use lib.Dec.{ltb}
+use Rattle.layout.specs.Table.{low_in}
+use Rattle.model.specs.Lists.{up_from, any}
+use Rattle.directives.specs.Counts.{any_low}
+use Rattle.directives.proofs.any_low.Given as goal
+
+abbrev pub invariant-loop-i : goal.invariant-loop-i
+invariant-loop-i l = (l.i ≤ l.n) × (any_low l.table l.n ≡ any (λ i. ltb 0 (low_in l.table i)) (up_from l.i (l.n - l.i)))
+
+abbrev pub decreases-loop-i : goal.decreases-loop-i
+decreases-loop-i l = l.n - l.i

@@ -1,0 +1,17 @@
+-- `entries_density` meets its contract. The loop's invariant: the entries before the place at hand are summed.
+-- Assumes nothing.
+use mathlib.Core.List.{List, [], ◌∷◌, ◌++◌}
+use Prim.Native.Nat.{ℕ, ◌-◌}
+use native.Mathlib.Omega.{arith}
+use lib.ListN.{length}
+use Rattle.known.specs.Taken.{Taken, taken_start, taken-short, taken-inside, taken-room, taken-last, taken_more, taken-place}
+use Rattle.scan.specs.Pins.{triple}
+use Rattle.ways.specs.Entry.{edge_of, placed}
+use Rattle.order.specs.Sums.{Sums, sums_none, sums-more, sums-job}
+use Rattle.order.proofs.entries_density.Given as goal
+
+abbrev pub invariant-loop-g : goal.invariant-loop-g
+invariant-loop-g l = Taken l.s l.g l.at l.i (λ es. Sums l.g l.w es l.v)
+
+abbrev pub decreases-loop-g : goal.decreases-loop-g
+decreases-loop-g l = length l.s - l.i

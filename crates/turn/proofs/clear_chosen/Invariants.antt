@@ -1,0 +1,17 @@
+-- `clear_chosen` meets its contract. The loop's invariant: nothing stands any more for the first i edges listed.
+-- Assumes nothing.
+use mathlib.Core.Path.{◌≡◌, sym, ap, ap₂, ◌∙◌}
+use Prim.Native.Nat.{ℕ, ◌+◌, ◌-◌, ◌*◌, ◌≤◌, ◌<◌}
+use native.Mathlib.Omega.{arith}
+use lib.ListN.{length, get_or}
+use Rattle.layout.specs.Areas.{chosen_at, list_at}
+use Rattle.layout.specs.Parts.{outside_wider}
+use Rattle.turn.proofs.Answer.{Clearing, clearing-start, clearing-next}
+use Rattle.turn.proofs.clear_chosen.Given as goal
+
+-- the part of what is chosen by edge has g.t * 2 numbers; where it ends the list begins
+abbrev pub invariant-loop-i : goal.invariant-loop-i
+invariant-loop-i l = (l.i ≤ l.n) × Clearing l.list l.chosen (l.list - l.chosen) l.initial.w l.w l.i
+
+abbrev pub decreases-loop-i : goal.decreases-loop-i
+decreases-loop-i l = l.n - l.i
