@@ -1,0 +1,18 @@
+-- `open_plan` meets its contract.
+-- Assumes nothing.
+use Prim.Native.Nat.{ℕ}
+use mathlib.Core.Path.{sym, subst}
+use Rattle.reader.specs.Whole.{lent_by, HeadTold}
+use Rattle.reader.specs.declared.PrintRoom.TheVariants.{Absent}
+use Rattle.planning.specs.Opening.{OpenTold}
+use Rattle.std.proofs.Common.{rules}
+use Rattle.planning.proofs.open_plan.Goals as goal
+
+pub open_job-requires : goal.open_job-requires
+open_job-requires c =
+    let x = c.args in record { head_told = subst (λ (n : ℕ). HeadTold x.s.now n x.order c.open_head-head.new.w c.open_head-head.result) (sym c.open_head-head.ensures.w_len_unchanged) c.open_head-head.ensures.head_told; table_size_in_bounds = c.requires }
+
+pub returns : goal.returns
+returns c =
+    let x = c.args in
+    subst (λ (n : ℕ). OpenTold x.s.now (lent_by n x.order x.answer Absent) c.open_job.new.w c.open_job.new.table c.open_job.result) c.open_head-head.ensures.w_len_unchanged c.open_job.ensures
