@@ -1,4 +1,1 @@
-pub mod Arrays
 mod Calls
-pub mod Facts
-pub mod Steps
