@@ -21,7 +21,7 @@ const ANSWER: usize = 65536;
 
 pub const PRINT: usize = 65536;
 
-// Print of an input, over the storage that the program lends. The borrow checker covers no function that lends entries, so this one is thin, and proved by a walk by hand.
+// Print of an input, over the storage that the program lends.
 fn print_input(input: &[u8], out: &mut [u8]) -> Printed
     ensures { Answered input.now out.old out.new result }
 {
