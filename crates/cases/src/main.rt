@@ -1,13 +1,16 @@
 // Reads job texts from standard input, each behind a header with its lent lengths, and writes one line for each: the number and the line of its refusal, or
 // 0,0 where the job is accepted. tests/reader/corpus makes the input and what is to be written.
-ghost use Rattle.std.specs.Prelude.{◌≡◌, ◌<◌, ◌≤◌, length};
+#![tactic(auto)]
+
+ghost use Rattle.std.specs.Prelude.{◌≡◌, ◌<◌, ◌≤◌, length, IfOk};
 ghost use Rattle.layout.specs.Table.{table_size};
 ghost use Rattle.model.specs.Read.{read};
 ghost use Rattle.reader.specs.Whole.{lent_by};
 ghost use Rattle.cases.specs.Told.{told_by, told_in};
 
-use libc::{STDIN_FILENO, STDOUT_FILENO};
 use reader::{JobRead, Lists, PrintRoom};
+use std::io;
+use std::io::{Read, Write};
 
 // A header, as `work=0000108 order=0000002 answer=0000003 print=0000390 bytes=0000245 fill=0000000` with byte 10: the lent lengths, the bytes of the text
 // that follow, and how many bytes 10 go behind them. Plan has `print=-------`.
@@ -113,61 +116,78 @@ fn fill(t: &mut [u8], from: usize, to: usize)
     }
 }
 
-fn print(v: Told) {
-    io::print_decimal(STDOUT_FILENO, v.number as u64);
-    io::write_all(STDOUT_FILENO, b",");
-    io::print_decimal(STDOUT_FILENO, v.line as u64);
-    io::write_all(STDOUT_FILENO, b"\n");
+fn print<O: Write>(to: &mut O, v: Told) -> io::Result<()> {
+    writeln!(to, "{},{}", v.number, v.line)
 }
 
 // Reads the text behind a header into the front of t; returns its length.
-fn load(h: &[u8; HEADER], t: &mut [u8]) -> usize
-    ensures { result ≤ length t.new }
+fn load<I: Read>(from: &mut I, h: &[u8; HEADER], t: &mut [u8]) -> io::Result<usize>
+    ensures { IfOk result (λ n. n ≤ length t.new) }
 {
     let bytes = least(field(h, BYTES), t.len());
-    io::read_full(STDIN_FILENO, &mut t[..bytes]);
+    input::read_full(from, &mut t[..bytes])?;
     let end = least(bytes + field(h, FILL), t.len());
     fill(t, bytes, end);
-    end
+    Ok(end)
 }
 
 // One text; whether there was one.
-fn case(t: &mut [u8], w: &mut [u32], table: &mut [u32]) -> bool
+fn case<I: Read, O: Write>(
+    from: &mut I,
+    to: &mut O,
+    t: &mut [u8],
+    w: &mut [u32],
+    table: &mut [u32],
+) -> io::Result<bool>
     requires { table_size ≤ length table.old }
     ensures { length table.new ≡ length table.old }
 {
     let mut h = [0u8; HEADER];
-    let n = io::read_full(STDIN_FILENO, &mut h);
+    let n = input::read_full(from, &mut h)?;
     if n < HEADER {
-        return false;
+        return Ok(false);
     }
-    let end = load(&h, t);
+    let end = load(from, &h, t)?;
     let work = least(field(&h, WORK), w.len());
-    print(judge(
+    let told = judge(
         &t[..end],
         &mut w[..work],
         table,
         field(&h, ORDER),
         field(&h, ANSWER),
         room(&h),
-    ));
-    true
+    );
+    print(to, told)?;
+    Ok(true)
 }
 
 // A proved loop has to end, so it counts the texts, down from more than there are.
-fn run(t: &mut [u8], w: &mut [u32], table: &mut [u32])
+fn run<I: Read, O: Write>(
+    from: &mut I,
+    to: &mut O,
+    t: &mut [u8],
+    w: &mut [u32],
+    table: &mut [u32],
+) -> io::Result<()>
     requires { table_size ≤ length table.old }
 {
     let mut left: usize = 1000000;
-    while left > 0 && case(t, w, table) {
+    while left > 0 && case(from, to, t, w, table)? {
         left -= 1;
     }
+    Ok(())
 }
 
 // Room for texts of more than 1,048,576 bytes, and for the working numbers of a grid of 64 × 64 tiles with eight layers.
-fn main() {
+fn main(rt: HostRuntime) -> io::Result<()> {
     let mut t = [0u8; 1048704];
     let mut w = [0u32; 276224];
     let mut table = [0u32; layout::TABLE];
-    run(&mut t, &mut w, &mut table);
+    run(
+        &mut rt.reader(),
+        &mut io::writer(&rt),
+        &mut t,
+        &mut w,
+        &mut table,
+    )
 }

@@ -1,0 +1,6 @@
+-- What is read so far has at most seven digits.
+use Rattle.std.proofs.Common.{◌<◌}
+use Rattle.cases.proofs.field.Given as goal
+
+abbrev pub invariant-loop-i : goal.invariant-loop-i
+invariant-loop-i l = l.v < 10000000
