@@ -1,4 +1,6 @@
 // Numbers, keys and entries at a place of the job text. Every function takes any place: past the end there is nothing to read.
+#![tactic(auto)]
+
 ghost use Rattle.std.specs.Prelude.{◌≡◌, ◌+◌, ◌-◌, ◌*◌, ◌<◌, ◌≤◌, leb, length, drop};
 ghost use Rattle.std.proofs.Math.Seq.{slice};
 ghost use Rattle.model.specs.Text.{is_digit, value_from};

@@ -1,7 +1,6 @@
 -- `break_at` meets its contract.
 -- Assumes nothing.
 use lib.ListN.{get_or-eq_default}
-use Rattle.std.proofs.Common.{rules}
 use Rattle.text.proofs.break_at.Goals as goal
 
 pub returns-then-s-n : goal.returns-then-s-n

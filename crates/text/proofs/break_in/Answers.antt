@@ -1,7 +1,6 @@
 -- `break_in` meets its contract.
 -- Assumes nothing.
 use borrow.Author.Tests.{eq-eqb, ne_eqb}
-use Rattle.std.proofs.Common.{rules}
 use Rattle.text.proofs.break_in.Goals as goal
 
 pub returns-then-b-eq59 : goal.returns-then-b-eq59

@@ -2,7 +2,6 @@
 -- Assumes nothing.
 use native.Mathlib.Omega.{arith}
 use Rattle.text.proofs.Spelt.{short-found}
-use Rattle.std.proofs.Common.{rules}
 use Rattle.text.proofs.brief.Goals as goal
 
 pub short-requires : goal.short-requires

@@ -1,7 +1,6 @@
 -- `is_digit` meets its contract.
 -- Assumes nothing.
 use borrow.Author.Tests.{le-leb, lt-leb}
-use Rattle.std.proofs.Common.{rules}
 use Rattle.text.proofs.is_digit.Goals as goal
 
 pub returns-then-b-ge48 : goal.returns-then-b-ge48

@@ -1,7 +1,6 @@
 -- `item_of` meets its contract.
 -- Assumes nothing.
 use mathlib.Core.Path.{sym}
-use Rattle.std.proofs.Common.{rules}
 use Rattle.text.proofs.item_of.Goals as goal
 
 pub returns-in-More : goal.returns-in-More

@@ -3,12 +3,9 @@
 -- Assumes nothing.
 use native.Mathlib.Nat.{add-zero}
 use Rattle.text.proofs.Prefix.{key_more, key-differs, key-short, key-all}
-use mathlib.Core.Path.{◌≡◌, sym, ◌∙◌}
-use Prim.Native.Nat.{◌+◌, ◌-◌, ◌≤◌}
-use lib.ListN.{length, drop, length-drop}
-use Rattle.text.specs.Entries.{starts_with}
+use mathlib.Core.Path.{sym, ◌∙◌}
+use lib.ListN.{drop, length-drop}
 use native.Mathlib.Omega.{arith}
-use Rattle.std.proofs.Common.{rules}
 use Rattle.text.proofs.key_at.Goals as goal
 
 pub returns-then-s-at : goal.returns-then-s-at

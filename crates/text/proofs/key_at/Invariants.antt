@@ -1,13 +1,10 @@
 -- `key_at` meets its contract: a loop over the key.
 -- The invariant: the key starts the text at this place just where what is left of it starts what is left of the text.
 -- Assumes nothing.
-use native.Mathlib.Nat.{add-zero}
-use Rattle.text.proofs.Prefix.{key_more, key-differs, key-short, key-all}
-use mathlib.Core.Path.{◌≡◌, sym, ◌∙◌}
+use mathlib.Core.Path.{◌≡◌}
 use Prim.Native.Nat.{◌+◌, ◌-◌, ◌≤◌}
-use lib.ListN.{length, drop, length-drop}
+use lib.ListN.{length, drop}
 use Rattle.text.specs.Entries.{starts_with}
-use native.Mathlib.Omega.{arith}
 use Rattle.text.proofs.key_at.Given as goal
 
 abbrev pub invariant-loop-i : goal.invariant-loop-i

@@ -2,9 +2,8 @@
 -- Assumes nothing.
 use mathlib.Core.Path.{sym, ◌∙◌}
 use Rattle.text.specs.Entries.{edge_entry_at}
-use borrow.Author.Tests.{leb-false, not-true}
+use borrow.Author.Tests.{leb-false}
 use Rattle.text.proofs.Spelt.{roomy, way_out}
-use Rattle.std.proofs.Common.{rules}
 use Rattle.text.proofs.long_edge.Goals as goal
 
 pub returns-in_default : goal.returns-in_default

@@ -2,7 +2,6 @@
 -- Assumes nothing.
 use mathlib.Core.Path.{sym, ◌∙◌}
 use Rattle.text.specs.Entries.{pin_entry_at}
-use Rattle.std.proofs.Common.{rules}
 use Rattle.text.proofs.long_pin.Goals as goal
 
 pub returns-in_default : goal.returns-in_default

@@ -1,13 +1,12 @@
 -- `longer` meets its contract.
 -- Assumes nothing.
-use mathlib.Core.Path.{◌≡◌, sym, ap, subst, ◌∙◌}
-use Prim.Native.Nat.{ℕ, ◌+◌}
+use mathlib.Core.Path.{sym, ap, subst, ◌∙◌}
+use Prim.Native.Nat.{ℕ}
 use native.Mathlib.Omega.{arith}
 use lib.ListN.{get_or}
 use Rattle.text.specs.Entries.{Three, Brief}
 use Rattle.text.specs.declared.Numeral.TheVariants.{Value}
 use Rattle.text.proofs.Spelt.{brief-three}
-use Rattle.std.proofs.Common.{rules}
 use Rattle.text.proofs.longer.Goals as goal
 use Rattle.text.proofs.longer.Goals.{In-Value}
 

@@ -1,9 +1,7 @@
 -- `number` meets its contract.
 -- Assumes nothing.
-use mathlib.Core.Logic.{⊎_elim}
 use Rattle.text.proofs.Digits.{within, few, many, padded, good}
 use native.Mathlib.Omega.{arith}
-use Rattle.std.proofs.Common.{rules}
 use Rattle.text.proofs.number.Goals as goal
 use Rattle.text.proofs.number.Goals.{then-b-eq48+else-n-ne1, else-b-eq48}
 

@@ -1,14 +1,10 @@
 -- `past_digits` meets its contract: a loop over digits.
 -- The invariant: the digits found so far and the run of digits from here on make the run from `at` on; what is left of the text falls.
 -- Assumes nothing.
-use mathlib.Core.Path.{◌≡◌, refl, ap, sym, ◌∙◌}
-use Prim.Native.Nat.{◌+◌, ◌-◌}
-use borrow.Author.Tests.{not-true, not-false}
-use lib.ListN.{length, drop}
-use Rattle.text.specs.Number.{digit_run}
+use mathlib.Core.Path.{ap, sym, ◌∙◌}
+use lib.ListN.{length}
 use Rattle.text.proofs.Digits.{digits_more, digits-stop, digits-end}
 use native.Mathlib.Omega.{arith}
-use Rattle.std.proofs.Common.{rules}
 use Rattle.text.proofs.past_digits.Goals as goal
 
 pub returns-then-not-is_digit : goal.returns-then-not-is_digit

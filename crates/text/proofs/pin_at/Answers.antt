@@ -2,7 +2,6 @@
 -- Assumes nothing.
 use Rattle.text.specs.Entries.{pin_entry_at}
 use Rattle.text.proofs.Spelt.{told_more, told-last}
-use Rattle.std.proofs.Common.{rules}
 use Rattle.text.proofs.pin_at.Goals as goal
 
 pub returns-in-More : goal.returns-in-More

@@ -6,9 +6,7 @@ use Prim.Native.Nat.{ℕ, ◌+◌, ◌*◌}
 use native.Mathlib.Omega.{arith}
 use lib.ListN.{get_or}
 use Rattle.model.specs.Text.{is_digit}
-use borrow.Author.Tests.{not-false}
 use Rattle.text.proofs.Spelt.{digit-least, brief-four, brief-five}
-use Rattle.std.proofs.Common.{rules}
 use Rattle.text.proofs.rest_of.Goals as goal
 use Rattle.text.proofs.rest_of.Goals.{Else-not-is_digit, Else-s-at}
 

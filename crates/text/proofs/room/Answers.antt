@@ -5,7 +5,6 @@ use Prim.Native.Nat.{◌+◌}
 use native.Mathlib.Omega.{arith}
 use borrow.Author.Tests.{le-leb, lt-leb}
 use lib.ListN.{length}
-use Rattle.std.proofs.Common.{rules}
 use Rattle.text.proofs.room.Goals as goal
 
 pub returns-then-s-n : goal.returns-then-s-n

@@ -5,9 +5,7 @@ use mathlib.Core.Path.{◌≡◌, sym, ◌∙◌}
 use Prim.Native.Nat.{◌+◌}
 use lib.ListN.{get_or}
 use Rattle.model.specs.Text.{is_digit}
-use borrow.Author.Tests.{not-false}
 use Rattle.text.proofs.Spelt.{digit-least, short-one, short-two}
-use Rattle.std.proofs.Common.{rules}
 use Rattle.text.proofs.short.Goals as goal
 use Rattle.text.proofs.short.Goals.{Else-not-is_digit-2}
 

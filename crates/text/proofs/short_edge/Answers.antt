@@ -3,7 +3,6 @@
 use Rattle.text.specs.Entries.{Paired}
 use Rattle.text.specs.declared.Pair.TheVariants.{Values}
 use Rattle.text.proofs.Spelt.{paired, edge-told}
-use Rattle.std.proofs.Common.{rules}
 use Rattle.text.proofs.short_edge.Goals as goal
 use Rattle.text.proofs.short_edge.Goals.{In-Values}
 

@@ -5,7 +5,6 @@ use Prim.Native.Nat.{◌+◌, ◌≤◌}
 use native.Mathlib.Omega.{arith}
 use lib.ListN.{length}
 use Rattle.text.proofs.Spelt.{roomy, short-found, comma-is}
-use Rattle.std.proofs.Common.{rules}
 use Rattle.text.proofs.short_pair.Goals as goal
 
 pub short-requires : goal.short-requires

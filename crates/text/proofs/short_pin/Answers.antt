@@ -2,11 +2,9 @@
 -- Assumes nothing.
 use mathlib.Core.Path.{sym, ◌∙◌}
 use native.Mathlib.Omega.{arith}
-use borrow.Author.Tests.{not-false}
 use Rattle.text.specs.Entries.{Paired}
 use Rattle.text.specs.declared.Pair.TheVariants.{Values}
 use Rattle.text.proofs.Spelt.{paired, pin-told}
-use Rattle.std.proofs.Common.{rules}
 use Rattle.text.proofs.short_pin.Goals as goal
 use Rattle.text.proofs.short_pin.Goals.{In-Values}
 

@@ -5,9 +5,8 @@ use mathlib.Core.Path.{◌≡◌, refl, sym, ◌∙◌}
 use Prim.Native.Nat.{◌+◌}
 use lib.ListN.{get_or}
 use Rattle.model.specs.Text.{is_digit}
-use borrow.Author.Tests.{not-false, ne_eqb}
+use borrow.Author.Tests.{ne_eqb}
 use Rattle.text.proofs.Spelt.{digit-least}
-use Rattle.std.proofs.Common.{rules}
 use Rattle.text.proofs.three_at.Goals as goal
 use Rattle.text.proofs.three_at.Goals.{Else-not-is_digit-3}
 

@@ -1,15 +1,11 @@
 -- `value` meets its contract: a loop over the digits.
 -- The invariant: the value so far and the digits that are left spell the whole. As no digit is above 207, v + 23 grows at most tenfold (10 × 23 = 23 + 207), so five digits do not overflow.
 -- Assumes nothing.
-use mathlib.Core.Path.{◌≡◌, refl, sym, ◌∙◌}
-use Prim.Native.Nat.{◌+◌, ◌-◌, ◌*◌, ◌^◌, ◌≤◌}
+use mathlib.Core.Path.{refl, sym, ◌∙◌}
 use native.Mathlib.Nat.{sub_self}
 use lib.Dec.{lit≤}
-use lib.Seq.{slice}
-use Rattle.model.specs.Text.{value_from}
 use Rattle.text.proofs.Digits.{value-step, value-done, grow, small}
 use native.Mathlib.Omega.{arith}
-use Rattle.std.proofs.Common.{rules}
 use Rattle.text.proofs.value.Goals as goal
 
 pub loop-i-init : goal.loop-i-init

@@ -2,7 +2,6 @@
 -- Assumes nothing.
 use mathlib.Core.Path.{sym, ◌∙◌}
 use Rattle.text.proofs.Commas.{comma-bad, comma-out, comma-good, comma-other}
-use Rattle.std.proofs.Common.{rules}
 use Rattle.text.proofs.with_comma.Goals as goal
 
 pub returns-then-s-next : goal.returns-then-s-next
