@@ -10,8 +10,8 @@ use Rattle.model.specs.Read.{Lent, Place, Result, refused, found, read, print_ne
 use Rattle.model.specs.Score.{order}
 use Rattle.model.specs.Calls.{Outcome, refusal, accepted as accepted-with, outcome_of, outcome, Buffers, overwrite, stretches, left_by, plan_lent, plan_call, print_lent, text_by, print_call}
 use Rattle.theory.specs.links.Reading.{accepted}
-use Rattle.theory.specs.links.Meets.{order-long}
-use Rattle.theory.specs.links.Room.{plan-long, print-room}
+use Rattle.theory.proofs.links.Meets.{order-long}
+use Rattle.theory.proofs.links.Room.{plan-long, print-room}
 
 -- each of the buffers has the length that it had
 pub record SameLengths (b c : Buffers) : Type 0 where
