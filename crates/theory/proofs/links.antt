@@ -4,3 +4,4 @@ pub mod Meets
 pub mod Room
 pub mod Buffers
 pub mod Settles
+pub mod Table
