@@ -4,8 +4,8 @@
 usage: python3 tools/turn_edits.py [--check]    at the top of the repository
 
     old: layersOf j e = layersIn j (group j e)      ->  old: layers_of j e = layers_in j (group j e)
-    old: use Prim.Native.Nat.{ℕ, _-_}               ->  old: the line `use Rattle.std.specs.Prelude.{..}` of today's file
-    new: use Prim.Native.Nat.{ℕ, _-_, _*_}          ->  new: that line with ◌*◌
+    old: use Prim.Native.Nat.{ℕ, _-_}               ->  old: set, replicate}          the end of `use Rattle.std.specs.Prelude.{..}` in today's file
+    new: use Prim.Native.Nat.{ℕ, _-_, _*_}          ->  new: set, replicate, ◌*◌}
 
 An edit whose old texts stand is left as it is. A pair that would only import what its file imports today is left out; no other pair is.
 With --check nothing is written. It prints each edit that it turns, and ends with those that cannot be applied: an old text has to stand once in its file.
@@ -57,10 +57,16 @@ def pair(old, new, text, names):
     """Returns the old and new text of today, or None where both say the same."""
     was, now = imported(old), imported(new)
     if was and now:
-        line = PRELUDE.search(text)
-        here = line[1].split(", ")
-        out = [it for it in here if it not in was or it in now] + [it for it in now if it not in was and it not in here]
-        return None if out == here else (line[0], line[0].replace(line[1], ", ".join(out)))
+        here = PRELUDE.search(text)[1].split(", ")
+        gone = [it for it in here if it in was and it not in now]
+        more = [it for it in now if it not in was and it not in here]
+        if not gone and not more:
+            return None
+        # the end of the list is enough: two names or more, that stand once, with those that go
+        at = min([len(here) - 2, *map(here.index, gone)])
+        while text.count(", ".join(here[at:]) + "}") != 1:
+            at -= 1
+        return ", ".join(here[at:]) + "}", ", ".join([it for it in here[at:] if it not in gone] + more) + "}"
     one, other = turned(old, names), turned(new, names)
     return None if one == other else (one, other)
 
