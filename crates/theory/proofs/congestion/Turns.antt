@@ -7,7 +7,7 @@ use Rattle.theory.specs.congestion.Sums.{same, In, same_refl, in_head, in_tail}
 use Rattle.theory.specs.congestion.Edge.{put, Within, within-less, within→legal}
 use Rattle.theory.specs.congestion.Problem.{Problem, ProblemOk, flat_over, IsChoice, IsLayering, uses, load, Keeps, LegalChoice, before, net_at, Considered, Demand3, Greedy, place, after}
 use Rattle.theory.specs.congestion.Loads.{AllWithin, mark-one, tight→within, within→tight}
-use Rattle.theory.specs.congestion.Turns.{legal→choice, good-less, State, Room, next-legal, next-state, start, before-is, EarlierLegal}
+use Rattle.theory.specs.congestion.Turns.{legal→choice, good-less, State, Room, next-legal, next-state, LegalBefore, state-at, start, before-is, EarlierLegal}
 
 module _ (j : Problem) (limit : ℕ → ℕ) where
   -- what keeps the limits with this net and more was placed by a legal choice
@@ -93,19 +93,7 @@ module _ (j : Problem) (ok : ProblemOk j) (limit : ℕ → ℕ) (room : Room j l
     good = λ e k. good-less j limit (λ e' l. x e' l + load e' l (n ∷ ns) (y ∷ o.zs)) (λ e' l. place x n y e' l + load e' l ns o.zs) e (λ l. omega arith) (o.good e k);
   }
 
-  -- the turns before i are placed legally
-  abbrev pub LegalBefore : (ℕ → ℕ → ℕ) → List (List ℕ) → List (List ℕ) → ℕ → Type 0
-  LegalBefore x ns ys i = (k : ℕ) → k < i → LegalChoice j limit (after x (take k ns) (take k ys)) (get_or ns k []) (get_or ys k [])
-
-  pub state-at : (i : ℕ) (x : ℕ → ℕ → ℕ) (ns ys : List (List ℕ)) → State j limit x ns → i < length ns → i ≤ length ys → LegalBefore x ns ys i
-      → State j limit (after x (take i ns) (take i ys)) (get_or ns i [] ∷ drop (suc i) ns)
-  state-at i x [] ys s h h' g = absurd (omega arith)
-  state-at zero x (n ∷ ns) ys s h h' g = s
-  state-at (suc i) x (n ∷ ns) [] s h h' g = absurd (omega arith)
-  state-at (suc i) x (n ∷ ns) (y ∷ ys) s h h' g =
-      state-at i (place x n y) ns ys (next-state j ok limit room x n ns y s (g 0 (omega arith))) (omega arith) (omega arith) (λ k b. g (suc k) (omega arith))
-
-  open-iff-legal : (i : ℕ) (x : ℕ → ℕ → ℕ) (ns ys : List (List ℕ)) → State j limit x ns → i < length ns → i ≤ length ys → LegalBefore x ns ys i
+  open-iff-legal : (i : ℕ) (x : ℕ → ℕ → ℕ) (ns ys : List (List ℕ)) → State j limit x ns → i < length ns → i ≤ length ys → LegalBefore j ok limit room x ns ys i
       → (choice : List ℕ) → Open x ns ys i choice ↔ LegalChoice j limit (after x (take i ns) (take i ys)) (get_or ns i []) choice
   open-iff-legal i x [] ys s h h' g choice = absurd (omega arith)
   open-iff-legal zero x (n ∷ ns) ys s h h' g choice = (
@@ -121,7 +109,7 @@ module _ (j : Problem) (ok : ProblemOk j) (limit : ℕ → ℕ) (room : Room j l
       )
 
   -- a plan that is legal at every turn is a layering within the limits
-  legal-layering : (x : ℕ → ℕ → ℕ) (ns ys : List (List ℕ)) → State j limit x ns → length ys ≡ length ns → LegalBefore x ns ys (length ns)
+  legal-layering : (x : ℕ → ℕ → ℕ) (ns ys : List (List ℕ)) → State j limit x ns → length ys ≡ length ns → LegalBefore j ok limit room x ns ys (length ns)
       → IsLayering j.layers ns ys × AllWithin j limit (λ e l. x e l + load e l ns ys)
   legal-layering x [] [] s h g = (tt, λ e i. good-less j limit (λ e' l. x e' l + 0) x e (λ l. omega arith) (s.good e i))
   legal-layering x [] (y ∷ ys) s h g = absurd (omega arith)
@@ -133,7 +121,7 @@ module _ (j : Problem) (ok : ProblemOk j) (limit : ℕ → ℕ) (room : Room j l
         λ e i. good-less j limit (λ e' l. x e' l + load e' l (n ∷ ns) (y ∷ ys)) (λ e' l. place x n y e' l + load e' l ns ys) e (λ l. omega arith) (r.1 e i),
       )
 
-  earlier : (plan : List (List ℕ)) (i : ℕ) → EarlierLegal j ok limit room plan i → LegalBefore (λ e l. 0) j.nets plan i
+  earlier : (plan : List (List ℕ)) (i : ℕ) → EarlierLegal j ok limit room plan i → LegalBefore j ok limit room (λ e l. 0) j.nets plan i
   earlier plan i g k h = subst (λ (x : ℕ → ℕ → ℕ). LegalChoice j limit x (net_at j k) (get_or plan k [])) (sym (before-is j ok limit room plan k)) (g k h)
 
   -- a net always has a legal choice at its turn
@@ -142,7 +130,7 @@ module _ (j : Problem) (ok : ProblemOk j) (limit : ℕ → ℕ) (room : Room j l
   legal-exists plan i h h' g =
       rw (← before-is j ok limit room plan i)
       (next-legal j ok limit room (after (λ e l. 0) (take i j.nets) (take i plan)) (net_at j i) (drop (suc i) j.nets)
-      (state-at i (λ e l. 0) j.nets plan (start j ok limit room) h h' (earlier plan i g)))
+      (state-at j ok limit room i (λ e l. 0) j.nets plan (start j ok limit room) h h' (earlier plan i g)))
 
   module _ (bounded : List (List ℕ) → Type 0) (bounded-iff : (ys : List (List ℕ)) → bounded ys ↔ Keeps j limit ys) where
     -- a choice is to be considered at a net's turn just where it is legal

@@ -9,15 +9,10 @@ use Rattle.model.specs.Print.{printed}
 use Rattle.model.specs.Read.{Lent, Place, Result, refused, found, read, print_need}
 use Rattle.model.specs.Score.{order}
 use Rattle.model.specs.Calls.{Outcome, refusal, accepted as accepted-with, outcome_of, outcome, Buffers, overwrite, stretches, left_by, plan_lent, plan_call, print_lent, text_by, print_call}
+use Rattle.theory.specs.links.Buffers.{SameLengths}
 use Rattle.theory.specs.links.Reading.{accepted}
 use Rattle.theory.proofs.links.Meets.{order-long}
 use Rattle.theory.proofs.links.Room.{plan-long, print-room}
-
--- each of the buffers has the length that it had
-pub record SameLengths (b c : Buffers) : Type 0 where
-  pub working : length c.working ≡ length b.working
-  pub order : length c.order ≡ length b.order
-  pub answer : length c.answer ≡ length b.answer
 
 overwrite-length : {A : Type 0} (new old : List A) → length new ≤ length old → length (overwrite new old) ≡ length old
 overwrite-length new old h = omega (arith, length-append new (drop (length new) old), length-drop (length new) old)
