@@ -34,9 +34,9 @@ use Rattle.sort.specs.Sorted.{Arranged}
 use Rattle.sort.specs.declared.Entry.{Entry}
 use Rattle.text.specs.Refusals.{number_of, line_of}
 use Rattle.theory.specs.links.Directives.{low-inside}
-use Rattle.theory.specs.links.Meets.{plan-call, print-call, plan-total-is, plan-maximum-both, plan-meets-demand3, print-meets-demand3}
+use Rattle.theory.proofs.links.Meets.{plan-call, print-call, plan-total-is, plan-maximum-both, plan-meets-demand3, print-meets-demand3}
 use Rattle.theory.specs.links.Reading.{Accepted, accepted}
-use Rattle.theory.specs.links.Room.{plan-long}
+use Rattle.theory.proofs.links.Room.{plan-long}
 use Rattle.theory.specs.links.Stretches.{cut-whole}
 use Rattle.calls.specs.Calls.{buffers_of, returned_of, plan_of, size_of}
 

@@ -11,8 +11,8 @@ use Rattle.theory.specs.congestion.Sums.{In, same_refl, same_cases, in_head, in_
 use Rattle.theory.specs.engine.Branches.{below}
 use Rattle.theory.specs.engine.Span.{span, Covers, covers-cons, span_set, span-shift}
 use Rattle.theory.specs.engine.Sweeps.{apart}
-use Rattle.theory.specs.engine.Swept.{swept-top}
-use Rattle.theory.specs.engine.Meeting as any
+use Rattle.theory.proofs.engine.Swept.{swept-top}
+use Rattle.theory.proofs.engine.Meeting as any
 use Rattle.sets.specs.Mask.{with_layer, mask_of, span_of, IsSet, set-none, set-with, mask-price}
 use Rattle.costs.specs.Rows.{illegal_cost, row_at, LeastCost}
 use Rattle.costs.specs.Combinations.{covers-none}

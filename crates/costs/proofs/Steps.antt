@@ -15,7 +15,7 @@ use Rattle.theory.specs.congestion.Sums.{lt-or-ge, in_head}
 use Rattle.theory.specs.engine.Span.{span, Climbs, covers-cons}
 use Rattle.theory.specs.engine.Interval.{least_in}
 use Rattle.theory.specs.engine.Sweeps as any
-use Rattle.theory.specs.engine.Swept.{up_top, swept-top, down-same, swept_same}
+use Rattle.theory.proofs.engine.Swept.{up_top, swept-top, down-same, swept_same}
 use Rattle.sets.specs.Mask.{has, with_layer, span_of, IsSet, set-none, mask-price, with-small, span-le-7, top, bottom, no_layer, Ends, ends_of}
 use Rattle.costs.specs.Rows.{illegal_cost, Eight, LayerMask}
 use Rattle.costs.specs.Intervals.{least_over, within, interval, least_end, around, Taken, PinEnds}

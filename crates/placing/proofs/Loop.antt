@@ -27,10 +27,11 @@ use Rattle.net.specs.SoFar.{SoFar}
 use Rattle.net.specs.Table.{Table, TurnsIn, table-set, beside-vias}
 use Rattle.theory.specs.congestion.Base.{in-up_from}
 use Rattle.theory.specs.congestion.Sums.{in_head, same_cases}
-use Rattle.theory.specs.links.Meets.{order-long}
+use Rattle.theory.proofs.links.Meets.{order-long}
 use Rattle.theory.specs.links.Placing.{nets_in, nets-only, order_is}
 use Rattle.theory.specs.links.Placing.{no_entry}
-use Rattle.theory.specs.links.Planned.{Midway, midway_start, midway-next, net-ok, same-net, turn-keeps, plan-in-turn, stands}
+use Rattle.theory.specs.links.Planned.{Midway, midway_start, net-ok, same-net, turn-keeps, stands}
+use Rattle.theory.proofs.links.Planned.{midway-next, plan-in-turn}
 use Rattle.theory.specs.links.Reading.{Accepted}
 use Rattle.theory.specs.links.Stretches.{cut-length, vias-by-turn}
 use Rattle.theory.specs.links.Turn.{order-once}

@@ -32,8 +32,8 @@ use Rattle.print.specs.declared.Ldof.{Ldof}
 use Rattle.reader.specs.Whole.{JobFound}
 use Rattle.theory.specs.links.Closed.{capacity-all}
 use Rattle.theory.specs.links.Limits.{demand-small, capacity-small, maximum-small}
-use Rattle.theory.specs.links.Meets.{plan-largest}
-use Rattle.theory.specs.links.Planned.{plan-meets}
+use Rattle.theory.proofs.links.Meets.{plan-largest}
+use Rattle.theory.proofs.links.Planned.{plan-meets}
 use Rattle.theory.specs.links.Reading.{Accepted, accepted}
 use Rattle.directives.specs.Asked.{Asked, AskedSome}
 use Rattle.flat.specs.FlatPlan.{AllCounted, FlatCapacities, FlatDemands, Overflows, so-far-first}

@@ -18,11 +18,11 @@ use Rattle.model.specs.Print.{print_line, print_nets, plan_lines, ldof_line, pri
 use Rattle.model.specs.Read.{Lent, print_need}
 use Rattle.model.specs.Score.{Entry, order}
 use Rattle.model.specs.Vias.{vias}
-use Rattle.theory.specs.links.Meets.{order-long}
+use Rattle.theory.proofs.links.Meets.{order-long}
 use Rattle.theory.specs.links.Placing.{no_entry, entry_at}
-use Rattle.theory.specs.links.Planned.{plan-in-turn}
+use Rattle.theory.proofs.links.Planned.{plan-in-turn}
 use Rattle.theory.specs.links.Reading.{Accepted}
-use Rattle.theory.specs.links.Room.{print-room}
+use Rattle.theory.proofs.links.Room.{print-room}
 use Rattle.theory.specs.links.Stretches.{offset-room, cut-length, cut_at}
 use Rattle.net.specs.Held.{Held}
 use Rattle.print.specs.Texts.{vias_of, layers_of, nets_text, turns_of, totals_text, lines_text, ldof_text, plan_text, Rows}

@@ -17,7 +17,7 @@ use Rattle.text.specs.Refusals.{number_of, line_of}
 use Rattle.text.specs.declared.Fault.TheVariants.{Form, Range, Turn, PinTwice, EdgeTwice, Apart, Closed, NoLayer}
 use Rattle.text.specs.declared.Refusal.{Refusal}
 use Rattle.text.specs.declared.Refusal.TheVariants.{TooLong, Line, Working, Order, Short}
-use Rattle.theory.specs.links.Table.{number-range}
+use Rattle.theory.proofs.links.Table.{number-range}
 
 -- "It lends 16,384 working numbers, 4,096 order entries and 65,536 bytes each for answer and print", all of them zero
 abbrev pub working : ℕ

@@ -20,7 +20,8 @@ use Rattle.net.specs.SoFar.{SoFar}
 use Rattle.net.specs.Table.{PinsAt, EdgesAt}
 use Rattle.theory.specs.links.Engine.{first_at, pins_at}
 use Rattle.theory.specs.links.Flat.{limit_at}
-use Rattle.theory.specs.links.Planned.{Midway, midway-next}
+use Rattle.theory.specs.links.Planned.{Midway}
+use Rattle.theory.proofs.links.Planned.{midway-next}
 use Rattle.theory.specs.links.Reading.{Accepted}
 use Rattle.tracks.specs.OccupiedAll.{edges_of, layers_in}
 

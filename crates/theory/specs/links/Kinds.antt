@@ -14,7 +14,7 @@ use Rattle.model.specs.Text.{number, numbers}
 use Rattle.model.specs.Tree.{joined}
 use Rattle.model.specs.Read.{Place, Result, refused, found, Reading, next, form, need, give, line, number_line, ranged, letters, letters_line, capacity_line, Sizes, Triple, pin_entries, edge_entries, pin_inside, edge_inside, pin_at, edge_at, same_pin, net_line, pins_line, has_layer, edges_line}
 use Rattle.theory.specs.links.Chain.{no_more_text, row, Kind, line_of}
-use Rattle.theory.specs.links.Words.{leb-fails, eqb-fails, or-fails, range-fails, Some, all-fails, NotAny, any-fails, PinInside, pin-fails, EdgeInside, edge-fails, PinTwice, pins-twice, EdgeTwice, edges-twice, NotReached, joined-fails}
+use Rattle.theory.specs.links.Words.{leb-fails, eqb-fails, or-fails, range-fails, Some, all-fails, NotAny, any-fails, PinInside, pin-fails, EdgeInside, edge-fails, Twice, same-pins, EdgeTwice, edges-twice, NotReached, joined-fails}
 
 -- ---- the table
 
@@ -103,7 +103,8 @@ net_kind i = record {
   result = λ n. tt;
 }
 
--- the line `pins`: 2, 3, and "5, the line: same tile and layer twice on `pins`"
+-- the line `pins`: 2, 3, and "5, the line: same tile and layer twice on `pins`", in words that are written out here: that those of the table of refusals,
+-- `PinTwice`, are the same is for its law to show
 abbrev pub pins_kind : Sizes → Kind (List Triple) (List Pin)
 pins_kind z = record {
   key = "pins";
@@ -115,7 +116,7 @@ pins_kind z = record {
       let K = z.layers in
       row 3 (all (pin_inside W H K) ps) (PinsOut z ps)
       (λ h. all-fails (pin_inside W H K) (λ p. PinInside W H K p → ⊥) (pin-fails W H K) ps)
-      (row 5 (not (twice same_pin (pins_of z ps))) (PinTwice (pins_of z ps)) (λ h. pins-twice (pins_of z ps))
+      (row 5 (not (twice same_pin (pins_of z ps))) (Twice (λ p q. (p.tile ≡ q.tile) × (p.layer ≡ q.layer)) (pins_of z ps)) (λ h. same-pins (pins_of z ps))
       no_more_text);
   result = pins_of z;
 }

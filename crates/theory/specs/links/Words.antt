@@ -8,7 +8,6 @@ use Rattle.model.specs.Tree.{joined}
 use Rattle.model.specs.Read.{Triple, pin_inside, edge_inside, same_pin}
 use Rattle.theory.specs.congestion.Sums.{eqb-true, eqb-false, occurs}
 use Rattle.theory.specs.congestion.Tests.{is_true, is_false, and_both, both-and, twice-once}
-use Rattle.theory.specs.links.Reach.{lo_of, hi_of}
 use Rattle.theory.specs.links.Means.{Reached, joined-means}
 
 -- ---- tests
@@ -133,14 +132,18 @@ edge-fails W H e = fails (edge_inside W H e) (go (eqb e.third 0) (eqb→eq e.thi
 abbrev pub PinTwice : List Pin → Type 0
 PinTwice = Twice (λ p q. (p.tile ≡ q.tile) × (p.layer ≡ q.layer))
 
-pub pins-twice : (ps : List Pin) → (not (twice same_pin ps) ≡ false) ↔ PinTwice ps
-pins-twice = twice-fails same_pin (λ p q. (p.tile ≡ q.tile) × (p.layer ≡ q.layer)) same
+-- the test of the `pins` line, in the same words written out
+pub same-pins : (ps : List Pin) → (not (twice same_pin ps) ≡ false) ↔ Twice (λ p q. (p.tile ≡ q.tile) × (p.layer ≡ q.layer)) ps
+same-pins = twice-fails same_pin (λ p q. (p.tile ≡ q.tile) × (p.layer ≡ q.layer)) same
   where
     same : (p q : Pin) → (same_pin p q ≡ true) ↔ ((p.tile ≡ q.tile) × (p.layer ≡ q.layer))
     same p q = (
       λ e. let b = and_both (eqb p.tile q.tile) (eqb p.layer q.layer) (subst T (sym e) tt) in (eqb→eq p.tile q.tile b.0, eqb→eq p.layer q.layer b.1),
       λ h. rw (eqb-true p.tile q.tile h.0, eqb-true p.layer q.layer h.1),
     )
+
+pub pins-twice : (ps : List Pin) → (not (twice same_pin ps) ≡ false) ↔ PinTwice ps
+pins-twice = same-pins
 
 -- "same edge twice on `edges`"
 abbrev pub EdgeTwice : List ℕ → Type 0

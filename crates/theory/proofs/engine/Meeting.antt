@@ -11,7 +11,7 @@ use native.Mathlib.Omega.{arith}
 use Rattle.theory.specs.congestion.Sums.{same_refl, in_tail, lt-or-ge}
 use Rattle.theory.specs.engine.Span.{span, highest, low_from, Climbs, climb-max, climb-min, ends-hold, span-sub, span-through}
 use Rattle.theory.specs.engine.Sweeps.{swept, met, third_met, pair_met, triple_met, apart}
-use Rattle.theory.specs.engine.Swept.{swept-low, swept-top, swept-hit}
+use Rattle.theory.proofs.engine.Swept.{swept-low, swept-top, swept-hit}
 
 -- layer x lies from lo to hi
 abbrev Inside : ℕ → ℕ → ℕ → Type 0

@@ -1,0 +1,3 @@
+pub mod congestion
+pub mod engine
+pub mod links
