@@ -1,5 +1,7 @@
 // The two calls. The job text is read and its nets are scored; the order list is made in the lent entries; then the nets are placed, and printed. A refused job has no
 // net, so nothing is written for it, and the working numbers are zero after every call.
+#![tactic(auto)]
+
 ghost use Rattle.std.specs.Prelude.{◌≡◌};
 ghost use Rattle.model.specs.Calls.{plan_lent, plan_call, print_lent, print_call};
 ghost use Rattle.model.specs.Demand3.{Met};

@@ -1,4 +1,6 @@
 // Lines of capacities: the numbers of a line stored at even distances in the working numbers, the two lines of a layer, and those of all layers.
+#![tactic(auto)]
+
 ghost use Rattle.std.specs.Prelude.{◌≡◌, true, ◌&&◌, ◌+◌, ◌-◌, ◌*◌, ◌<◌, ◌≤◌, leb, length};
 ghost use Rattle.model.specs.Limits.{most_capacity};
 ghost use Rattle.model.specs.Read.{capacity_lines};

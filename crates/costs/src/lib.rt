@@ -12,6 +12,8 @@
 // intervals of layers: the vias from one end to the other, and for each branch its least cost within. Eight layers have functions of their own, whose
 // loops have a fixed number of turns; fewer layers go through the same leaves with the number of layers as it is. Inside these functions layers are
 // counted from 0.
+#![tactic(auto)]
+
 ghost use Rattle.std.specs.Prelude.{◌≡◌, cond, ℕ, suc, ◌+◌, ◌-◌, ◌*◌, ◌/◌, ◌%◌, ◌^◌, ◌<◌, ◌≤◌, min, leb, eqb, get_or, length};
 ghost use Rattle.model.specs.Lists.{up_from};
 ghost use Rattle.theory.specs.engine.Interval.{least_in};

@@ -1,26 +1,25 @@
 -- A tile whose only mark is a way: it has one edge and no pin.
 -- Assumes nothing.
-use Rattle.std.specs.Prelude.{Bool, true, false, ◌&&◌, ◌||◌, not, cond, List, [], ◌∷◌, ◌⊎◌, ◌≢◌, ◌≡◌, refl, ℕ, zero, suc, ◌+◌, ◌-◌, ◌*◌, ◌^◌, ◌≤◌, ◌<◌, T, eqb, length}
-use Rattle.std.proofs.Common.{inl, inr, ⊎_elim, sym, ap, subst, ◌∙◌, zero-add, arith, eq-eqb, ne_eqb, eqb-true}
-use Rattle.std.proofs.lemmas.Bool.{eqb-false}
+use Rattle.std.specs.Prelude.{Bool, true, false, ◌&&◌, ◌||◌, cond, List, [], ◌∷◌, ◌≢◌, ◌≡◌, refl, ℕ, zero, suc, ◌+◌, ◌-◌, ◌*◌, ◌^◌, ◌≤◌, ◌<◌, T, eqb, length}
+use Rattle.std.proofs.Common.{⊎_elim, sym, ap, subst, ◌∙◌, zero-add, arith, eq-eqb, ne_eqb, eqb-true}
 use Rattle.layout.specs.Shapes.{Shaped}
 use Rattle.layout.specs.declared.Shape.{Shape}
-use Rattle.marks.specs.Marks.{bits_at, marked}
+use Rattle.marks.specs.Marks.{bits_at}
 use Rattle.marks.specs.Words.{bit_of, bits_small, bit-zero, bit-add, value_of, value-is}
 use Rattle.model.specs.Cut.{pinned}
 use Rattle.model.specs.Grid.{grid_edges}
 use Rattle.model.specs.Job.{Pin}
-use Rattle.model.specs.Lists.{has, bit, sum, keep, any, In, occurs}
+use Rattle.model.specs.Lists.{has, bit, sum, keep, In, occurs}
 use Rattle.model.specs.Vias.{pin_layers}
 use Rattle.net.specs.AtHand.{Drawn}
 use Rattle.theory.specs.congestion.Sums.{lt-or-ge}
-use Rattle.theory.specs.congestion.Tests.{is_true, and_both, has_in}
+use Rattle.theory.specs.congestion.Tests.{and_both, has_in}
 use Rattle.theory.specs.cutting.Prune.{degree, Bare}
 use Rattle.theory.specs.cutting.Strip.{degree-ways}
 use Rattle.theory.specs.links.Edges.{near_of, near-is, fits-of}
 use Rattle.theory.specs.links.Nets.{EachPin}
 use Rattle.theory.specs.links.Reach.{lo_of, hi_of}
-use Rattle.theory.specs.walk.Ways.{way?, way_edge, ways_by, near}
+use Rattle.theory.specs.walk.Ways.{way?, way_edge, ways_by}
 
 -- what is known of the pins and edges that are marked
 pub record Fine (g : Shape) (ps : List Pin) (es : List ℕ) : Type 0 where

@@ -1,6 +1,6 @@
 -- The entries of a net taken in turn: "an edge that closes a ring with kept earlier ones is dropped". Those are marked that join two parts.
 -- Assumes nothing.
-use Rattle.std.specs.Prelude.{Bool, true, false, not, cond, List, [], ◌∷◌, ◌++◌, ◌≡◌, refl, ℕ, ◌+◌, ◌*◌, ◌≤◌, ◌<◌, eqb, length, get_or}
+use Rattle.std.specs.Prelude.{Bool, true, false, not, cond, List, [], ◌∷◌, ◌++◌, ◌≡◌, ℕ, ◌+◌, ◌*◌, ◌≤◌, eqb, length}
 use Rattle.std.proofs.Common.{append-nil, inl, inr, sym, ap, subst, ◌∙◌, arith}
 use Rattle.layout.specs.Areas.{tiles_at, links_at, chosen_at, tiles_of, links_of}
 use Rattle.layout.specs.Parts.{part-long, part-outside, Outside, outside_wider, outside-then, outside-same}
@@ -14,7 +14,6 @@ use Rattle.model.specs.Read.{Triple, edge_inside}
 use Rattle.net.specs.AtHand.{Drawn}
 use Rattle.netread.specs.Edges.{both_after}
 use Rattle.netread.specs.Hand.{drawn-more}
-use Rattle.theory.specs.congestion.Sums.{occurs}
 use Rattle.theory.specs.congestion.Tests.{has-false, has-none}
 use Rattle.theory.specs.cutting.Kept.{kept-snoc}
 use Rattle.theory.specs.links.Reach.{lo_of, hi_of}

@@ -1,7 +1,7 @@
 -- A net whose entries have a ring: what is marked once its rings are cut.
 -- Assumes nothing.
-use Rattle.std.specs.Prelude.{true, List, [], ◌∷◌, map, ℕ, ◌+◌, ◌*◌, ◌≤◌, ◌<◌, length, get_or}
-use Rattle.std.proofs.Common.{inl, inr, sym, subst, ◌∙◌, arith}
+use Rattle.std.specs.Prelude.{true, List, [], ◌∷◌, map, ℕ, ◌+◌, ◌*◌, ◌≤◌, length, get_or}
+use Rattle.std.proofs.Common.{inr, sym, subst, ◌∙◌, arith}
 use Rattle.std.proofs.Math.Path.{◌≡◌, ap}
 use Rattle.layout.specs.Areas.{tiles_at, links_at, chosen_at, tiles_of, links_of}
 use Rattle.layout.specs.Parts.{part-outside, Outside, outside_wider, outside-then}

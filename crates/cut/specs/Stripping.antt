@@ -1,8 +1,7 @@
 -- A tile with one edge and no pin loses that edge: what the marks then are, and the same on and on along.
 -- Assumes nothing.
-use Rattle.std.specs.Prelude.{Bool, true, false, ◌&&◌, not, cond, List, [], ◌∷◌, ◌⊎◌, ◌≡◌, refl, ℕ, zero, suc, ◌+◌, ◌-◌, ◌%◌, ◌≤◌, ◌<◌, T, eqb, length}
-use Rattle.std.proofs.Common.{inl, inr, ⊎_elim, sym, ap, ap₂, subst, ◌∙◌, arith, eq-eqb, ne_eqb}
-use Rattle.std.proofs.Math.Decide.{ℕ_discrete}
+use Rattle.std.specs.Prelude.{Bool, true, false, ◌&&◌, not, cond, List, ◌⊎◌, ◌≡◌, refl, ℕ, zero, suc, ◌+◌, ◌-◌, ◌%◌, ◌≤◌, ◌<◌, T, eqb, length}
+use Rattle.std.proofs.Common.{inl, inr, ⊎_elim, sym, ap, ap₂, subst, ◌∙◌, arith, ne_eqb}
 use Rattle.layout.specs.Shapes.{Shaped, WayRoom, way_of}
 use Rattle.layout.specs.declared.Shape.{Shape}
 use Rattle.layout.specs.declared.Way.{Way}
@@ -10,7 +9,7 @@ use Rattle.marks.specs.Marks.{bits_at, marked, unmark, unmark-has, unmark-fits, 
 use Rattle.marks.specs.Words.{Fits}
 use Rattle.model.specs.Cut.{pinned}
 use Rattle.model.specs.Job.{Pin}
-use Rattle.model.specs.Lists.{has, keep, In}
+use Rattle.model.specs.Lists.{has, In}
 use Rattle.model.specs.Read.{Triple, edge_inside}
 use Rattle.net.specs.AtHand.{Drawn}
 use Rattle.net.specs.Ways.{way-is, way-room}

@@ -1,5 +1,7 @@
 // The lines of a net whose entries have a ring, read again. "Going along an `edges` line, an edge that closes a ring with kept earlier ones is dropped"; then "a tile
 // with one kept edge and no pin" loses that edge, "until none is left to lose". Its pins and the edges that it keeps are marked by tile.
+#![tactic(auto)]
+
 ghost use Rattle.std.specs.Prelude.{true, false, cond, List, [], ◌∷◌, ◌++◌, ◌≡◌, ℕ, ◌+◌, ◌*◌, ◌<◌, ◌≤◌, min, length, get_or};
 ghost use Rattle.layout.specs.Areas.{demand_at, tiles_at, links_at, chosen_at, list_at, areas_end, tiles_of, links_of};
 ghost use Rattle.layout.specs.Parts.{Outside};

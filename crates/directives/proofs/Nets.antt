@@ -25,7 +25,7 @@ use Rattle.marks.specs.Words.{most_stamp}
 use Rattle.model.specs.Directives.{summed_excess, wanting, ldof_at, ldof, given, has_low}
 use Rattle.model.specs.Job.{Net, Job, low_from, low_of, no_net, net_of, net_count, capacity}
 use Rattle.model.specs.Limits.{most_capacity}
-use Rattle.model.specs.Lists.{up_from, sum, any, count, has}
+use Rattle.model.specs.Lists.{up_from, sum, any}
 use Rattle.model.specs.Print.{print_line, ldof_line}
 use Rattle.model.specs.Read.{Lent}
 use Rattle.net.specs.Dropped.{Unmarked, unmarked-more, Remarked, remarked-same, told_none}

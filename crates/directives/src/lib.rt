@@ -1,5 +1,7 @@
 // Layer directives: over all edges, how many nets must go without a track on a layer that they want. The nets are counted by edge and wanted layer where the
 // loads of the placing will stand, which are still zero and are zeroed again.
+#![tactic(auto)]
+
 ghost use Rattle.std.specs.Prelude.{true, false, List, [], ◌∷◌, ◌++◌, ◌≡◌, ℕ, suc, ◌+◌, ◌*◌, ◌<◌, ◌≤◌, min, length, get_or};
 ghost use Rattle.cut.specs.Again.{KeptAt};
 ghost use Rattle.layout.specs.Areas.{demand_at, chosen_at};

@@ -1,4 +1,6 @@
 // The line `dirs`, which may be left out: which way each layer runs.
+#![tactic(auto)]
+
 ghost use Rattle.std.specs.Prelude.{◌≡◌, ◌<◌, ◌≤◌, length};
 ghost use Rattle.model.specs.Read.{dirs_line};
 ghost use Rattle.text.specs.Refusals.{place_of};

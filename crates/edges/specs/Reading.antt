@@ -1,6 +1,6 @@
 -- What the working numbers hold while the `edges` line of a net is read, and what its entries have shown so far.
 -- Assumes nothing.
-use Rattle.std.specs.Prelude.{Bool, true, false, List, [], map, ◌≡◌, ℕ, ◌+◌, ◌≤◌, ◌<◌, ◌*◌, eqb, length, get_or}
+use Rattle.std.specs.Prelude.{Bool, true, false, List, [], map, ◌≡◌, ℕ, ◌+◌, ◌≤◌, ◌<◌, eqb, length, get_or}
 use Rattle.layout.specs.Areas.{demand_at, flat_at, tiles_at, tiles_of, links_of}
 use Rattle.layout.specs.Shapes.{most_tiles}
 use Rattle.layout.specs.declared.Shape.{Shape}

@@ -1,5 +1,7 @@
 // The `edges` line of a net, judged from left to right: the form of the whole line first, then range, the same edge twice, reach, and layers that run the
 // ways of its edges. Its edges are marked by tile, their ends joined, and each is counted into the flat demand; whether they have a ring is told.
+#![tactic(auto)]
+
 ghost use Rattle.std.specs.Prelude.{◌≡◌, true, false, List, [], ◌∷◌, ◌++◌, ℕ, ◌+◌, ◌-◌, ◌<◌, ◌≤◌, ◌*◌, length, drop, get_or, set};
 ghost use Rattle.std.proofs.Math.Option.{some};
 ghost use Rattle.layout.specs.Areas.{demand_at, tiles_at, links_at, chosen_at, tiles_of, links_of};

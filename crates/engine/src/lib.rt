@@ -1,6 +1,8 @@
 // The layers of one net: at each tile, from the root on, the first combination of branch layers that reaches the tile's least cost. The numbers
 // stand in a part w of the working numbers that has room for m tiles, 12 m numbers, as crate `costs` describes it: where the branches end (m),
 // pins (m), legal layers (m), chosen layers (m), and cost rows (8 m).
+#![tactic(auto)]
+
 ghost use Rattle.std.specs.Prelude.{◌≡◌, List, ℕ, ◌+◌, ◌-◌, ◌*◌, ◌<◌, ◌≤◌, eqb, ltb, length, get_or};
 ghost use Rattle.std.proofs.lemmas.List.Edits.{sets};
 ghost use Rattle.model.specs.Job.{Job, Net};

@@ -1,4 +1,6 @@
 // The flat plan in the working numbers: c(e), the overflow of each edge, TO and MO, and the limits on one layer's overflow.
+#![tactic(auto)]
+
 ghost use Rattle.std.specs.Prelude.{◌≡◌, ℕ, ◌+◌, ◌-◌, ◌<◌, ◌≤◌, max, length, get_or};
 ghost use Rattle.layout.specs.Areas.{loads_at, demand_at, flat_at, tiles_at};
 ghost use Rattle.layout.specs.Parts.{Outside};

@@ -8,7 +8,6 @@ use Rattle.model.specs.Read.{Result, found, next, Lent, working_need, read}
 use Rattle.theory.specs.links.JobText.{option_lines, head_lines}
 use Rattle.layout.specs.Dirs.{dirs_of}
 use Rattle.layout.specs.Shapes.{sizes_of, Shaped}
-use Rattle.layout.specs.declared.Shape.{Shape}
 use Rattle.text.specs.Refusals.{place_of}
 use Rattle.text.specs.declared.Cursor.{Cursor}
 use Rattle.lines.specs.Told.{refused_by, After}

@@ -1,4 +1,6 @@
 // The head of a job text: the lines from `width` through `nets`, with the capacities stored in the working numbers.
+#![tactic(auto)]
+
 ghost use Rattle.std.specs.Prelude.{◌≡◌, ◌+◌, ◌<◌, ◌≤◌, length};
 ghost use Rattle.model.specs.Read.{working_need};
 ghost use Rattle.theory.specs.links.JobText.{stack_line};

@@ -1,4 +1,6 @@
 // The entries of lines that the first pass found right, read again. Every coordinate has one digit or two, and what was tested then is not tested again.
+#![tactic(auto)]
+
 ghost use Rattle.std.specs.Prelude.{◌≡◌, cond, ◌+◌, ◌-◌, ◌*◌, ◌≤◌, eqb, ltb};
 ghost use Rattle.text.specs.Entries.{comma_at, pin_entry_at, edge_entry_at};
 ghost use Rattle.text.specs.declared.Numeral.TheVariants.{Value};

@@ -1,4 +1,6 @@
 // Both calls under the names that C and Rust link: include/layerplan.h declares them. A slice is passed as pointer and length.
+#![tactic(auto)]
+
 ghost use Rattle.std.specs.Prelude.{◌≡◌};
 ghost use Rattle.calls.specs.Calls.{buffers_of, returned_of};
 ghost use Rattle.model.specs.Calls.{plan_lent, plan_call, print_lent, print_call};

@@ -1,4 +1,6 @@
 // The stack of layers, the grid of tiles, and where each thing stands in the working numbers.
+#![tactic(auto)]
+
 ghost use Rattle.std.specs.Prelude.{◌≡◌, ℕ, ◌+◌, ◌-◌, ◌*◌, ◌^◌, ◌<◌, ◌≤◌, length, replicate};
 ghost use Rattle.model.specs.Job.{runs as runs_in};
 ghost use Rattle.model.specs.Limits.{most_layers, most_nets};

@@ -1,4 +1,6 @@
 // The reader, by which every line of the text is opened; lines with one number.
+#![tactic(auto)]
+
 ghost use Rattle.std.specs.Prelude.{◌≡◌, true, ◌+◌, ◌<◌, ◌≤◌, ◌^◌, length};
 ghost use Rattle.text.specs.Entries.{ended_at};
 ghost use Rattle.text.specs.Refusals.{place_of};

@@ -1,5 +1,7 @@
 // Which pins and ways the net at hand has in each tile. A word is stamp × 4,096 + bits; the bits of a word with another stamp are those of an earlier
 // net and count as none, so nothing is cleared between nets. Bits 0 to 7 are pins on layers 1 to 8; bits 8 to 11 are the ways east, north, west, south.
+#![tactic(auto)]
+
 ghost use Rattle.std.specs.Prelude.{◌≡◌, true, cond, ℕ, ◌+◌, ◌-◌, ◌*◌, ◌^◌, ◌<◌, ◌≤◌, length, get_or};
 ghost use Rattle.marks.specs.Words.{bits_in, bit_of, Fits, most_stamp, stamp_unit};
 ghost use Rattle.marks.specs.Marks.{marked, mark, unmark, put_of, marks_after};

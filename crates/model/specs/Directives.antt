@@ -2,7 +2,7 @@
 -- Assumes nothing.
 use Rattle.std.specs.Prelude.{Bool, true, false, ◌&&◌, List, [], ◌∷◌, map, ◌⊎◌, ◌≡◌, ℕ, zero, suc, ◌+◌, ◌-◌, ◌≤◌, min, ltb, eqb}
 use Rattle.std.proofs.Math.Option.{Option, none, some}
-use Rattle.model.specs.Job.{Net, low_of, Job, all_edges, capacity}
+use Rattle.model.specs.Job.{low_of, Job, all_edges, capacity}
 use Rattle.model.specs.Lists.{up_from, sum, occurs, any, keep, count, has}
 use Rattle.model.specs.Overflow.{over}
 

@@ -1,6 +1,6 @@
 -- What the number of dropped entries says of a net that the reading let pass: none is dropped exactly where its entries have no ring.
 -- Assumes nothing.
-use Rattle.std.specs.Prelude.{Bool, true, false, List, [], ◌≡◌, refl, ℕ, ◌+◌, ◌-◌, ◌*◌, ◌/◌, ◌%◌, ◌≤◌, ◌<◌, length}
+use Rattle.std.specs.Prelude.{Bool, true, false, List, [], ◌≡◌, refl, ℕ, ◌+◌, ◌*◌, ◌/◌, ◌%◌, ◌≤◌, ◌<◌, length}
 use Rattle.std.proofs.Common.{sym, ap, ◌∙◌, arith}
 use Rattle.layout.specs.Areas.{tiles_at, tiles_of, links_of}
 use Rattle.layout.specs.Parts.{Outside, outside-then, outside-same}

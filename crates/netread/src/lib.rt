@@ -1,4 +1,6 @@
 // The lines of an accepted net, read again for placing. What the first pass found right is not tested again.
+#![tactic(auto)]
+
 ghost use Rattle.std.specs.Prelude.{true, ◌≡◌, ℕ, ◌+◌, ◌-◌, ◌*◌, ◌^◌, ◌<◌, ◌≤◌, min, max, length, get_or};
 ghost use Rattle.layout.specs.Areas.{tiles_at, chosen_at, areas_end, tiles_of};
 ghost use Rattle.layout.specs.Parts.{Outside};

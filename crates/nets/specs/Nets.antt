@@ -1,6 +1,6 @@
 -- What the lines of a net, and of all nets, leave in the working numbers and in the net table.
 -- Assumes nothing.
-use Rattle.std.specs.Prelude.{List, [], ◌++◌, map, ◌≡◌, refl, ℕ, zero, suc, ◌+◌, ◌*◌, ◌≤◌, ◌<◌, length, get_or}
+use Rattle.std.specs.Prelude.{List, ◌++◌, map, ◌≡◌, refl, ℕ, zero, suc, ◌+◌, ◌*◌, ◌≤◌, ◌<◌, length, get_or}
 use Rattle.std.proofs.Math.Option.{Option, none, some}
 use Rattle.edges.specs.Reading.{Few}
 use Rattle.layout.specs.Areas.{loads_at, demand_at, flat_at, tiles_at, chosen_at, tiles_of, links_of}
@@ -14,7 +14,7 @@ use Rattle.model.specs.Job.{Net, no_net, lengths}
 use Rattle.model.specs.Limits.{most_nets}
 use Rattle.model.specs.Lists.{occurs}
 use Rattle.model.specs.Overflow.{demand}
-use Rattle.model.specs.Read.{Place, Result, Reading, refused, found, next, ◌>>=◌, give, Sizes, net_line, low_line, pins_line, edges_line, net_with, net_lines, nets}
+use Rattle.model.specs.Read.{Place, Result, Reading, refused, found, next, ◌>>=◌, give, Sizes, net_line, low_line, pins_line, edges_line, net_with, net_lines}
 use Rattle.text.specs.Refusals.{place_of}
 use Rattle.text.specs.declared.Cursor.{Cursor}
 use Rattle.theory.specs.links.JobText.{option_lines, nets_lines}

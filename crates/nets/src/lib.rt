@@ -1,4 +1,6 @@
 // The lines of all nets, behind the head of a job text: each net's three or four lines judged, and its row put into the net table.
+#![tactic(auto)]
+
 ghost use Rattle.std.specs.Prelude.{◌≡◌, ◌+◌, ◌*◌, ◌<◌, ◌≤◌, length, get_or, set};
 ghost use Rattle.layout.specs.Areas.{tiles_at, chosen_at, tiles_of, links_of};
 ghost use Rattle.layout.specs.Parts.{Outside};

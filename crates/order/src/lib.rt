@@ -1,4 +1,6 @@
 // The scores of all nets of an accepted job, each in the net's row of the net table.
+#![tactic(auto)]
+
 ghost use Rattle.std.specs.Prelude.{true, List, [], ◌∷◌, ◌++◌, ◌≡◌, ℕ, suc, ◌+◌, ◌*◌, ◌^◌, ◌<◌, ◌≤◌, length, get_or};
 ghost use Rattle.cut.specs.Again.{KeptAt};
 ghost use Rattle.layout.specs.Areas.{tiles_at, chosen_at};

@@ -1,4 +1,6 @@
 // The `pins` line of a net, judged and marked from left to right: the form of the whole line first, then range, then the same pin twice.
+#![tactic(auto)]
+
 ghost use Rattle.std.specs.Prelude.{◌≡◌, true, false, ℕ, ◌+◌, ◌-◌, ◌*◌, ◌<◌, ◌≤◌, length, drop};
 ghost use Rattle.layout.specs.Shapes.{sizes_of, Shaped};
 ghost use Rattle.marks.specs.Marks.{marks_after, Older};

@@ -1,4 +1,6 @@
 // The nets of an accepted job in placing order, each in its turn. Its layers go into its own stretch of the answer list, and its vias into the net table.
+#![tactic(auto)]
+
 ghost use Rattle.std.specs.Prelude.{◌≡◌, ℕ, ◌*◌, ◌<◌, ◌≤◌, length, set};
 ghost use Rattle.sets.specs.Mask.{span_of, Charted};
 ghost use Rattle.flat.specs.Limited.{limit_at};

@@ -1,5 +1,7 @@
 // A call but for its order list: a job text is read and its nets are scored; then, in the order that the net table has, they are placed, and the plan is printed. The
 // working numbers are zero after every call.
+#![tactic(auto)]
+
 ghost use Rattle.std.specs.Prelude.{◌≡◌, ℕ, suc, ◌*◌, ◌≤◌, length, replicate};
 ghost use Rattle.layout.specs.Table.{table_size};
 ghost use Rattle.model.specs.Job.{Job};

@@ -1,5 +1,7 @@
 // The whole job text read once: a job or its one refusal. An accepted job leaves its capacities and flat demand in the working numbers, and the net table
 // has where each net's lines stand.
+#![tactic(auto)]
+
 ghost use Rattle.std.specs.Prelude.{◌≡◌, ◌+◌, ◌*◌, ◌<◌, ◌≤◌, length};
 ghost use Rattle.layout.specs.Areas.{chosen_at};
 ghost use Rattle.layout.specs.Shapes.{Shaped};

@@ -1,4 +1,6 @@
 // What the program writes: the printed plan of the job in its input, or the line of its refusal.
+#![tactic(auto)]
+
 ghost use Rattle.std.specs.Prelude.{◌≡◌, ◌≤◌, length};
 ghost use Rattle.model.specs.Calls.{refusal, overwrite};
 ghost use Rattle.model.specs.Program.{written, program};

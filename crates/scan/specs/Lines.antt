@@ -1,7 +1,7 @@
 -- A line of entries with semicolons between and commas in them, read byte by byte from its front.
 -- `line_of f g t`: the line that t begins with, its first entry judged by f and the others by g, and the text after it.
 -- Assumes nothing.
-use Rattle.std.specs.Prelude.{◌≡◌, refl, Bool, true, false, ◌&&◌, not, cond, List, [], ◌∷◌, ◌++◌, map, ℕ, ◌+◌, leb, eqb, length, drop}
+use Rattle.std.specs.Prelude.{◌≡◌, refl, Bool, true, false, ◌&&◌, not, cond, List, [], ◌∷◌, ◌++◌, map, ℕ, leb, eqb, length, drop}
 use Rattle.std.proofs.Common.{sym, ap, ◌∙◌, ne_eqb, arith}
 use Rattle.std.proofs.Math.Option.{Option, none, some}
 use Rattle.model.specs.Lists.{all, cons_if, every}

@@ -1,1 +1,3 @@
+#![tactic(auto)]
+
 // Laws of reading a line from left to right stand in specs/.

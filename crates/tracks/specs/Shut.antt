@@ -1,8 +1,7 @@
 -- Layers that run the other way are closed before the first turn. Document 02, S-2.
 -- Assumes nothing.
-use Rattle.std.specs.Prelude.{Bool, true, false, cond, List, ◌⊎◌, ◌≡◌, refl, ℕ, suc, ◌+◌, ◌-◌, ◌*◌, ◌≤◌, ◌<◌, T, ltb, get_or}
-use Rattle.std.proofs.Common.{inl, inr, ⊎_elim, sym, ap, ◌∙◌, subst, mul-le-mul_right, add-mul, arith, lt-ltb, le-ltb}
-use Rattle.std.proofs.Math.Option.{Option, none, some}
+use Rattle.std.specs.Prelude.{Bool, true, false, cond, List, ◌≡◌, refl, ℕ, suc, ◌+◌, ◌-◌, ◌*◌, ◌≤◌, ◌<◌, ltb, get_or}
+use Rattle.std.proofs.Common.{⊎_elim, sym, ap, ◌∙◌, subst, mul-le-mul_right, add-mul, arith, lt-ltb, le-ltb}
 use Rattle.layout.specs.Areas.{loads_at, edge-room}
 use Rattle.layout.specs.Dirs.{dirs_of}
 use Rattle.layout.specs.Fill.{Filled}

@@ -1,4 +1,6 @@
 // Nets and capacities on the layers of each edge, in the working numbers: the legal layers of an edge, and one more net on a layer.
+#![tactic(auto)]
+
 ghost use Rattle.std.specs.Prelude.{◌≡◌, cond, ℕ, ◌+◌, ◌-◌, ◌*◌, ◌^◌, ◌<◌, ◌≤◌, length, get_or};
 ghost use Rattle.layout.specs.Areas.{demand_at, flat_at, areas_end};
 ghost use Rattle.layout.specs.Fill.{Filled};

@@ -20,7 +20,7 @@ use Rattle.marks.specs.Marks.{Older}
 use Rattle.marks.specs.Words.{bit_of, bit_is}
 use Rattle.model.specs.Job.{group}
 use Rattle.model.specs.Limits.{most_nets}
-use Rattle.model.specs.Lists.{In, has}
+use Rattle.model.specs.Lists.{In}
 use Rattle.model.specs.Plan.{placed, legal}
 use Rattle.model.specs.Vias.{vias}
 use Rattle.theory.specs.links.Best.{LegalFor, in_walk, cheapest, to-walk, vias-cost, best-walk, best-is, legal-rising, legal-iff, legal-choice}

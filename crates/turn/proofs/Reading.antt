@@ -2,18 +2,18 @@
 -- Assumes nothing.
 use mathlib.Core.Bool.{Bool, true, false}
 use mathlib.Core.List.{List, [], ◌∷◌}
-use mathlib.Core.Logic.{inl, inr, ⊎_elim}
-use mathlib.Core.Path.{◌≡◌, refl, sym, ap, ap₂, ◌∙◌, subst}
-use Prim.Native.Nat.{ℕ, zero, suc, ◌+◌, ◌*◌, ◌≤◌, ◌<◌}
+use mathlib.Core.Logic.{inl, ⊎_elim}
+use mathlib.Core.Path.{◌≡◌, sym, ap, ◌∙◌, subst}
+use Prim.Native.Nat.{ℕ, suc, ◌+◌, ◌*◌, ◌≤◌, ◌<◌}
 use native.Mathlib.Omega.{arith}
 use lib.ListN.{length, get_or}
-use Rattle.cut.specs.Net.{RingAt, RingThere}
-use Rattle.layout.specs.Areas.{tiles_at, links_at, chosen_at, list_at, stops_at, tiles_of, links_of}
+use Rattle.cut.specs.Net.{RingAt}
+use Rattle.layout.specs.Areas.{tiles_at, links_at, chosen_at, list_at, stops_at, links_of}
 use Rattle.layout.specs.Parts.{part, Outside, part-outside}
 use Rattle.layout.specs.Shapes.{Shaped}
 use Rattle.layout.specs.declared.Shape.{Shape}
 use Rattle.marks.specs.Marks.{Older}
-use Rattle.model.specs.Lists.{same, In, has}
+use Rattle.model.specs.Lists.{In, has}
 use Rattle.net.specs.Table.{PinsAt, EdgesAt}
 use Rattle.netread.specs.Net.{NetThere, LinesOf, NetRead}
 use Rattle.netread.specs.declared.Again.{Again}
@@ -21,7 +21,6 @@ use Rattle.theory.specs.congestion.Sums.{same_cases}
 use Rattle.theory.specs.congestion.Tests.{has-none}
 use Rattle.theory.specs.links.Nets.{NetOk}
 use Rattle.theory.specs.links.Planned.{stands}
-use Rattle.theory.specs.links.Scores.{few-numbers}
 use Rattle.walk.specs.Walked.{Walks, Walked}
 use Rattle.turn.specs.Kept.{so-far-low}
 use Rattle.turn.specs.Steps.{KnownList, ChosenCleared}

@@ -1,5 +1,7 @@
 // One net of an accepted job takes its turn: it is read again and walked, its legal layers are found over the nets placed before it, its layers are
 // chosen and written into its stretch of the answer list, and one more net is on these layers.
+#![tactic(auto)]
+
 ghost use Rattle.std.specs.Prelude.{true, List, ◌≡◌, ℕ, ◌*◌, ◌≤◌, length};
 ghost use Rattle.sets.specs.Mask.{span_of, Charted};
 ghost use Rattle.engine.specs.Net.{Holds, HoldsNet, Placed};

@@ -1,5 +1,7 @@
 // Union-find over the tiles of the net at hand, in a slice that the caller lends: one word to a tile, its stamp times 4,096 and the tile's parent.
 // A word of another stamp is a tile that is its own parent, so nothing is cleared between nets.
+#![tactic(auto)]
+
 ghost use Rattle.std.specs.Prelude.{◌≡◌, ◌+◌, ◌*◌, ◌<◌, ◌≤◌, min, max, length, set};
 ghost use Rattle.layout.specs.Areas.{links_at, chosen_at, links_of};
 ghost use Rattle.layout.specs.Parts.{Outside};

@@ -1,8 +1,7 @@
 -- The marks of the net at hand and the walk's branches: the ways that go on from a tile are its branches, in the same order.
 -- Assumes nothing.
-use Rattle.std.specs.Prelude.{Bool, true, false, ◌&&◌, not, cond, List, [], ◌∷◌, ◌↔◌, ◌≡◌, refl, ℕ, zero, suc, ◌+◌, ◌-◌, ◌*◌, ◌/◌, ◌%◌, ◌≤◌, ◌<◌, T, eqb, length, get_or}
-use Rattle.std.proofs.Common.{sym, ap, ap₂, ◌∙◌, subst, mul-le-mul_left, arith, leb→le, ltb→lt, ne_eqb}
-use Rattle.std.proofs.Math.Nat.{div-add-mod}
+use Rattle.std.specs.Prelude.{Bool, true, false, ◌&&◌, not, cond, List, [], ◌∷◌, ◌↔◌, ◌≡◌, refl, ℕ, zero, suc, ◌+◌, ◌-◌, ◌*◌, ◌<◌, T, eqb, length, get_or}
+use Rattle.std.proofs.Common.{sym, ap, ap₂, ◌∙◌, subst, arith, ne_eqb}
 use Rattle.std.proofs.lemmas.Bool.{eqb-false}
 use Rattle.layout.specs.Shapes.{Shaped, WayRoom, way_of}
 use Rattle.layout.specs.declared.Shape.{Shape}
@@ -14,7 +13,7 @@ use Rattle.theory.specs.congestion.Base.{in-up_from}
 use Rattle.theory.specs.congestion.Tests.{test-eq, and_both, both-and, not-false, has_in}
 use Rattle.theory.specs.walk.Stops.{branch?, branches, branch-test, far}
 use Rattle.net.specs.Ways.{way-is, way-room}
-use Rattle.theory.specs.walk.Ways.{lo, hi, near, way?, way_edge, way_tile, ways_by, way-leads}
+use Rattle.theory.specs.walk.Ways.{lo, hi, near, way?, way_edge, ways_by, way-leads}
 use Rattle.walk.specs.Steps.{goes, onward, four_ways}
 
 -- edges of a tile, and the tiles that they lead to

@@ -1,5 +1,7 @@
 // The walk: "breadth first from the net's lowest-numbered tile. The four ways out of a tile come in the order east, north, west, south, leaving out the
 // way back." The tiles of the net at hand are numbered in this order; by place, w has the tile, the edge above it, the end of its branches, and its pins.
+#![tactic(auto)]
+
 ghost use Rattle.std.specs.Prelude.{◌≡◌, true, [], ◌∷◌, ℕ, ◌+◌, ◌*◌, ◌<◌, ◌≤◌, length, get_or};
 ghost use Rattle.layout.specs.Areas.{tiles_at, stops_at, areas_end};
 ghost use Rattle.layout.specs.Shapes.{Shaped, WayRoom};

@@ -1,5 +1,7 @@
 // An edge as an entry names it: the tile that it leads to and its number. The edges of the net at hand, marked by tile: the way on where an edge starts, and
 // the way back where it ends.
+#![tactic(auto)]
+
 ghost use Rattle.std.specs.Prelude.{true, ◌≡◌, ◌+◌, ◌/◌, ◌<◌, ◌≤◌, length};
 ghost use Rattle.layout.specs.Shapes.{Shaped, way_of};
 ghost use Rattle.marks.specs.Marks.{marks_after};

@@ -1,6 +1,5 @@
 -- `plan` meets its contract: what its steps say is what the definitions say of the call (`Calls.antt`).
-use mathlib.Core.List.{List}
-use Rattle.std.proofs.Common.{◌≡◌, ◌≤◌, ℕ, refl, ap, ◌∙◌, subst, sym, arith, length}
+use Rattle.std.proofs.Common.{◌≤◌, ℕ, refl, ap, ◌∙◌, subst, arith, length}
 use lib.ListN.{replicate}
 use Rattle.std.proofs.lemmas.List.{length-replicate}
 use Rattle.layout.specs.Table.{table_size}

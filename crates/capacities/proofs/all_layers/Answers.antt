@@ -1,18 +1,15 @@
 -- `all_layers` meets its contract.
 -- Assumes nothing.
-use mathlib.Core.Path.{◌≡◌, refl, sym, ◌∙◌}
-use Prim.Native.Nat.{◌+◌, ◌-◌, ◌*◌, ◌≤◌}
+use mathlib.Core.Path.{refl, sym, ◌∙◌}
+use Prim.Native.Nat.{◌+◌}
 use native.Mathlib.Nat.{sub-zero}
 use lib.ListN.{length}
-use Rattle.model.specs.Read.{capacity_lines}
 use Rattle.layout.specs.Dirs.{dirs_of}
 use Rattle.text.specs.Refusals.{place_of}
-use Rattle.lines.specs.Told.{mapped, list-after}
+use Rattle.lines.specs.Told.{list-after}
 use Rattle.lines.specs.declared.Listed.TheVariants.{Next, Refused as Unlisted}
-use Rattle.capacities.specs.Capacities.{spread_all}
 use Rattle.capacities.proofs.Layers.{caps-refused, caps-next, caps-done, caps-told}
 use native.Mathlib.Omega.{arith}
-use Rattle.std.proofs.Common.{rules}
 use Rattle.capacities.proofs.all_layers.Goals as goal
 
 pub loop-layer-init : goal.loop-layer-init

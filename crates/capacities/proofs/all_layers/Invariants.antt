@@ -1,17 +1,13 @@
 -- `all_layers` meets its contract.
 -- Assumes nothing.
-use mathlib.Core.Path.{◌≡◌, refl, sym, ◌∙◌}
+use mathlib.Core.Path.{◌≡◌}
 use Prim.Native.Nat.{◌+◌, ◌-◌, ◌*◌, ◌≤◌}
-use native.Mathlib.Nat.{sub-zero}
 use lib.ListN.{length}
 use Rattle.model.specs.Read.{capacity_lines}
 use Rattle.layout.specs.Dirs.{dirs_of}
 use Rattle.text.specs.Refusals.{place_of}
-use Rattle.lines.specs.Told.{mapped, list-after}
-use Rattle.lines.specs.declared.Listed.TheVariants.{Next, Refused as Unlisted}
+use Rattle.lines.specs.Told.{mapped}
 use Rattle.capacities.specs.Capacities.{spread_all}
-use Rattle.capacities.proofs.Layers.{caps-refused, caps-next, caps-done, caps-told}
-use native.Mathlib.Omega.{arith}
 use Rattle.capacities.proofs.all_layers.Given as goal
 
 abbrev pub invariant-loop-layer : goal.invariant-loop-layer

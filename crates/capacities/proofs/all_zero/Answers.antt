@@ -1,15 +1,11 @@
 -- `all_zero` meets its contract: what is left of the column decides, number after number (`Judged.antt`).
 -- Assumes nothing.
-use mathlib.Core.Path.{◌≡◌, refl, sym, ◌∙◌}
+use mathlib.Core.Path.{refl, sym, ◌∙◌}
 use Prim.Native.Nat.{◌<◌}
 use lib.ListN.{length}
-use Rattle.capacities.specs.Capacities.{column}
-use Rattle.capacities.specs.Reads.{zeros}
-use Rattle.capacities.specs.Spread.{Room}
 use Rattle.capacities.proofs.Judged.{zeros-none, zeros-end, zeros-next}
 use Rattle.capacities.proofs.Steps.{room_in, room_next, room_small}
 use native.Mathlib.Omega.{arith}
-use Rattle.std.proofs.Common.{rules}
 use Rattle.capacities.proofs.all_zero.Goals as goal
 use Rattle.capacities.proofs.all_zero.Goals.{In-loop-left}
 

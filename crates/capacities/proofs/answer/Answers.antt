@@ -1,7 +1,6 @@
 -- `answer` meets its contract.
 -- Assumes nothing.
 
-use Rattle.std.proofs.Common.{rules}
 use Rattle.capacities.proofs.answer.Goals as goal
 
 pub returns-then-inside : goal.returns-then-inside

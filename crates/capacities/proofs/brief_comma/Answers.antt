@@ -1,7 +1,6 @@
 -- `brief_comma` meets its contract.
 -- Assumes nothing.
 use native.Mathlib.Omega.{arith}
-use Rattle.std.proofs.Common.{rules}
 use Rattle.capacities.proofs.brief_comma.Goals as goal
 
 pub brief-requires : goal.brief-requires

@@ -3,10 +3,8 @@
 use Rattle.text.specs.Entries.{Brief}
 use Rattle.text.specs.declared.Numeral.TheVariants.{Value}
 use Rattle.capacities.specs.declared.Run.{Run}
-use Rattle.capacities.specs.Ran.{Ran}
 use Rattle.capacities.proofs.Going.{ran-start, ran_then, next-in, next_small, one_more}
 use native.Mathlib.Omega.{arith}
-use Rattle.std.proofs.Common.{rules}
 use Rattle.capacities.proofs.brief_run.Goals as goal
 use Rattle.capacities.proofs.brief_run.Goals.{At-loop-left}
 

@@ -1,11 +1,6 @@
 -- `brief_run` meets its contract. The loop's invariant: what was read so far leads from the first place to the one at hand.
 -- Assumes nothing.
-use Rattle.text.specs.Entries.{Brief}
-use Rattle.text.specs.declared.Numeral.TheVariants.{Value}
-use Rattle.capacities.specs.declared.Run.{Run}
 use Rattle.capacities.specs.Ran.{Ran}
-use Rattle.capacities.proofs.Going.{ran-start, ran_then, next-in, next_small, one_more}
-use native.Mathlib.Omega.{arith}
 use Rattle.capacities.proofs.brief_run.Given as goal
 
 abbrev pub invariant-loop-left : goal.invariant-loop-left

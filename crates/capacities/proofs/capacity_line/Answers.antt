@@ -8,7 +8,6 @@ use Rattle.lines.specs.Opens.{place-within}
 use Rattle.lines.specs.Told.{list_in}
 use Rattle.lines.specs.declared.Opened.{Opened}
 use Rattle.capacities.proofs.Keys.{capacities-none, capacities-key}
-use Rattle.std.proofs.Common.{rules}
 use Rattle.capacities.proofs.capacity_line.Goals as goal
 use Rattle.capacities.proofs.capacity_line.Goals.{Else-not-o}
 

@@ -9,7 +9,6 @@ use Rattle.capacities.specs.Ran.{onward, Ran}
 use Rattle.capacities.proofs.Steps.{kept-length, answer-told, answer-in}
 use Rattle.capacities.proofs.Going.{ran-start, ran_then, next-in, next_small, one-bad, one_more, last-bad, last_told, last_in, start, start-stands, start-onward}
 use native.Mathlib.Omega.{arith}
-use Rattle.std.proofs.Common.{rules}
 use Rattle.capacities.proofs.entries.Goals as goal
 use Rattle.capacities.proofs.entries.Goals.{After-answer-2, After-put, At-loop-r}
 

@@ -12,7 +12,6 @@ use Rattle.capacities.specs.Capacities.{column}
 use Rattle.capacities.specs.Reads.{zeros, judged_line_by}
 use Rattle.capacities.specs.Spread.{spread, Room}
 use Rattle.capacities.proofs.Judged.{first-true, either_true, neither-true, judged-refused, judged-fine, judged-closed}
-use Rattle.std.proofs.Common.{rules}
 use Rattle.capacities.proofs.judged_line.Goals as goal
 use Rattle.capacities.proofs.judged_line.Goals.{In-Next}
 

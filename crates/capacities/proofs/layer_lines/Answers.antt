@@ -9,7 +9,6 @@ use Rattle.lines.specs.Told.{After, list-after}
 use Rattle.capacities.specs.Told.{list_told}
 use Rattle.capacities.proofs.Layers.{east-part, east-room, north-room, layer-refused, layer-both}
 use native.Mathlib.Omega.{arith}
-use Rattle.std.proofs.Common.{rules}
 use Rattle.capacities.proofs.layer_lines.Goals as goal
 use Rattle.capacities.proofs.layer_lines.Goals.{In-Next}
 

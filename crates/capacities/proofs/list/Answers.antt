@@ -5,7 +5,6 @@ use mathlib.Core.Bool.{true}
 use Rattle.capacities.specs.Entries.{finish}
 use Rattle.capacities.proofs.Steps.{line-some, line-out, line-empty, line_other}
 use native.Mathlib.Omega.{arith}
-use Rattle.std.proofs.Common.{rules}
 use Rattle.capacities.proofs.list.Goals as goal
 
 pub returns-then-to-gt0 : goal.returns-then-to-gt0

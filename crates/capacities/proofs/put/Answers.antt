@@ -4,7 +4,6 @@ use mathlib.Core.Path.{sym}
 use borrow.Author.Tests.{le-leb, lt-leb}
 use Rattle.capacities.proofs.Steps.{and-true, and-false}
 use Rattle.model.specs.Limits.{most_capacity}
-use Rattle.std.proofs.Common.{rules}
 use Rattle.capacities.proofs.put.Goals as goal
 
 pub returns-then-v-gt-MOST_CAPACITY : goal.returns-then-v-gt-MOST_CAPACITY

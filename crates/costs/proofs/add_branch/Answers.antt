@@ -1,12 +1,11 @@
 -- `add_branch` meets its contract. The loop's invariant: the ends from s up to b have their sum, and `least` is the least cost on the layers passed.
 -- Assumes nothing.
 use mathlib.Core.Path.{◌≡◌, refl, ◌∙◌}
-use Prim.Native.Nat.{◌+◌, ◌-◌, ◌≤◌}
+use Prim.Native.Nat.{◌+◌, ◌-◌}
 use native.Mathlib.Omega.{arith}
-use Rattle.costs.specs.Intervals.{least_over, within}
+use Rattle.costs.specs.Intervals.{within}
 use Rattle.costs.proofs.Around.{over-top}
-use Rattle.costs.proofs.Steps.{AddedUpTo, over_none, over-more, added_none, added_more, added-all}
-use Rattle.std.proofs.Common.{rules}
+use Rattle.costs.proofs.Steps.{over_none, over-more, added_none, added_more, added-all}
 use Rattle.costs.proofs.add_branch.Goals as goal
 use Rattle.costs.proofs.add_branch.Goals.{After-v-1}
 

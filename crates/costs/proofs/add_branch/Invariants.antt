@@ -1,11 +1,9 @@
 -- `add_branch` meets its contract. The loop's invariant: the ends from s up to b have their sum, and `least` is the least cost on the layers passed.
 -- Assumes nothing.
-use mathlib.Core.Path.{◌≡◌, refl, ◌∙◌}
-use Prim.Native.Nat.{◌+◌, ◌-◌, ◌≤◌}
-use native.Mathlib.Omega.{arith}
-use Rattle.costs.specs.Intervals.{least_over, within}
-use Rattle.costs.proofs.Around.{over-top}
-use Rattle.costs.proofs.Steps.{AddedUpTo, over_none, over-more, added_none, added_more, added-all}
+use mathlib.Core.Path.{◌≡◌}
+use Prim.Native.Nat.{◌-◌, ◌≤◌}
+use Rattle.costs.specs.Intervals.{least_over}
+use Rattle.costs.proofs.Steps.{AddedUpTo}
 use Rattle.costs.proofs.add_branch.Given as goal
 
 abbrev pub invariant-loop-b : goal.invariant-loop-b

@@ -1,13 +1,10 @@
 -- `costs` meets its contract. The loop's invariant: the rows of the tiles from tile i on are written.
 -- Assumes nothing.
-use mathlib.Core.Path.{◌≡◌, refl, ◌∙◌}
-use Prim.Native.Nat.{◌-◌, ◌≤◌}
+use mathlib.Core.Path.{refl, ◌∙◌}
+use Prim.Native.Nat.{◌-◌}
 use native.Mathlib.Omega.{arith}
-use lib.ListN.{length}
-use Rattle.costs.specs.Rows.{RowsFrom}
 use Rattle.costs.specs.Kept.{shape-kept}
 use Rattle.costs.proofs.Written.{rows_start, rows_next, rows_all}
-use Rattle.std.proofs.Common.{rules}
 use Rattle.costs.proofs.costs.Goals as goal
 
 pub loop-i-init : goal.loop-i-init

@@ -1,12 +1,9 @@
 -- `costs` meets its contract. The loop's invariant: the rows of the tiles from tile i on are written.
 -- Assumes nothing.
-use mathlib.Core.Path.{◌≡◌, refl, ◌∙◌}
-use Prim.Native.Nat.{◌-◌, ◌≤◌}
-use native.Mathlib.Omega.{arith}
+use mathlib.Core.Path.{◌≡◌}
+use Prim.Native.Nat.{◌≤◌}
 use lib.ListN.{length}
 use Rattle.costs.specs.Rows.{RowsFrom}
-use Rattle.costs.specs.Kept.{shape-kept}
-use Rattle.costs.proofs.Written.{rows_start, rows_next, rows_all}
 use Rattle.costs.proofs.costs.Given as goal
 
 abbrev pub invariant-loop-i : goal.invariant-loop-i

@@ -7,7 +7,6 @@ use native.Mathlib.Omega.{arith}
 use Rattle.costs.specs.Rows.{Eight, TileCosts, LayerMask}
 use Rattle.costs.specs.Intervals.{around, PinEnds}
 use Rattle.costs.proofs.Tiles.{sweep-costs, pair-costs, triple-costs, pin-costs, interval-costs-of}
-use Rattle.std.proofs.Common.{rules}
 use Rattle.costs.proofs.eight_costs.Goals as goal
 use Rattle.costs.proofs.eight_costs.Goals.{After-pin_ends-e}
 

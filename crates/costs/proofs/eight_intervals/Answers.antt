@@ -7,7 +7,6 @@ use native.Mathlib.Omega.{arith}
 use lib.ListN.{get_or-replicate}
 use Rattle.costs.specs.Rows.{illegal_cost}
 use Rattle.costs.proofs.Steps.{around-none, around-end}
-use Rattle.std.proofs.Common.{rules}
 use Rattle.costs.proofs.eight_intervals.Goals as goal
 use Rattle.costs.proofs.eight_intervals.Goals.{After-take_start-8}
 

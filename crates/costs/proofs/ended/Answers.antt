@@ -2,7 +2,6 @@
 -- Assumes nothing.
 use mathlib.Core.Path.{refl}
 use Rattle.costs.proofs.Steps.{ended-yes, ended-no}
-use Rattle.std.proofs.Common.{rules}
 use Rattle.costs.proofs.ended.Goals as goal
 
 pub returns-then-high-b : goal.returns-then-high-b

@@ -1,13 +1,12 @@
 -- `interval_costs` meets its contract. The loop's invariant: c has the least cost of the intervals that start below s.
 -- Assumes nothing.
 use mathlib.Core.Path.{◌≡◌, refl, subst}
-use Prim.Native.Nat.{ℕ, ◌-◌, ◌≤◌}
+use Prim.Native.Nat.{ℕ}
 use native.Mathlib.Omega.{arith}
 use lib.ListN.{get_or-replicate}
 use Rattle.costs.specs.Rows.{illegal_cost, Eight}
 use Rattle.costs.specs.Intervals.{around}
 use Rattle.costs.proofs.Steps.{around-none}
-use Rattle.std.proofs.Common.{rules}
 use Rattle.costs.proofs.interval_costs.Goals as goal
 
 pub loop-s-init : goal.loop-s-init

@@ -1,12 +1,11 @@
 -- `intervals_from` meets its contract. The loop's invariant: v has the costs of the intervals with the first c branches.
 -- Assumes nothing.
 use mathlib.Core.Path.{◌≡◌, subst}
-use Prim.Native.Nat.{ℕ, ◌-◌, ◌≤◌}
+use Prim.Native.Nat.{ℕ}
 use native.Mathlib.Omega.{arith}
 use Rattle.costs.specs.Rows.{Eight}
 use Rattle.costs.specs.Intervals.{interval}
 use Rattle.costs.proofs.Steps.{intervals-none, intervals-more, intervals-small}
-use Rattle.std.proofs.Common.{rules}
 use Rattle.costs.proofs.intervals_from.Goals as goal
 use Rattle.costs.proofs.intervals_from.Goals.{After-struct_known-in-loop-c-1}
 

@@ -1,11 +1,8 @@
 -- `intervals_from` meets its contract. The loop's invariant: v has the costs of the intervals with the first c branches.
 -- Assumes nothing.
-use mathlib.Core.Path.{◌≡◌, subst}
-use Prim.Native.Nat.{ℕ, ◌-◌, ◌≤◌}
-use native.Mathlib.Omega.{arith}
+use Prim.Native.Nat.{◌-◌, ◌≤◌}
 use Rattle.costs.specs.Rows.{Eight}
 use Rattle.costs.specs.Intervals.{interval}
-use Rattle.costs.proofs.Steps.{intervals-none, intervals-more, intervals-small}
 use Rattle.costs.proofs.intervals_from.Given as goal
 
 abbrev pub invariant-loop-c : goal.invariant-loop-c

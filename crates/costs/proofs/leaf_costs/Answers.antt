@@ -1,14 +1,11 @@
 -- `leaf_costs` meets its contract. The loop's invariant: the layers below l have the vias of the pins with that layer.
 -- Assumes nothing.
 use mathlib.Core.Path.{refl, ◌∙◌, ap}
-use Prim.Native.Nat.{suc, ◌-◌}
 use native.Mathlib.Omega.{arith}
 use native.Mathlib.Numerals.{add-one}
 use lib.ListN.{get_or-replicate}
 use Rattle.sets.specs.Mask.{with_layer, span_of}
-use Rattle.costs.specs.Rows.{Eight}
 use Rattle.costs.proofs.Steps.{eight-none, eight-more, eight-all, leaf-none}
-use Rattle.std.proofs.Common.{rules}
 use Rattle.costs.proofs.leaf_costs.Goals as goal
 
 pub returns-then-pins-eq0 : goal.returns-then-pins-eq0

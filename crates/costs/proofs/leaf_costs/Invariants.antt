@@ -1,13 +1,8 @@
 -- `leaf_costs` meets its contract. The loop's invariant: the layers below l have the vias of the pins with that layer.
 -- Assumes nothing.
-use mathlib.Core.Path.{refl, ◌∙◌, ap}
 use Prim.Native.Nat.{suc, ◌-◌}
-use native.Mathlib.Omega.{arith}
-use native.Mathlib.Numerals.{add-one}
-use lib.ListN.{get_or-replicate}
 use Rattle.sets.specs.Mask.{with_layer, span_of}
 use Rattle.costs.specs.Rows.{Eight}
-use Rattle.costs.proofs.Steps.{eight-none, eight-more, eight-all, leaf-none}
 use Rattle.costs.proofs.leaf_costs.Given as goal
 
 abbrev pub invariant-loop-l : goal.invariant-loop-l

@@ -1,14 +1,10 @@
 -- `least_cost` meets its contract.
 -- Assumes nothing.
-use mathlib.Core.Path.{◌≡◌, refl, ◌∙◌}
-use Prim.Native.Nat.{◌-◌, ◌≤◌}
+use mathlib.Core.Path.{refl, ◌∙◌}
 use native.Mathlib.Omega.{arith}
 use lib.ListN.{get_or}
-use Rattle.model.specs.Lists.{up_from}
-use Rattle.theory.specs.engine.Interval.{least_in}
 use Rattle.costs.specs.Rows.{illegal_cost}
 use Rattle.costs.proofs.Runs.{run-next, run-all}
-use Rattle.std.proofs.Common.{rules}
 use Rattle.costs.proofs.least_cost.Goals as goal
 
 pub loop-l-init : goal.loop-l-init

@@ -1,13 +1,11 @@
 -- `least_cost` meets its contract.
 -- Assumes nothing.
-use mathlib.Core.Path.{◌≡◌, refl, ◌∙◌}
+use mathlib.Core.Path.{◌≡◌}
 use Prim.Native.Nat.{◌-◌, ◌≤◌}
-use native.Mathlib.Omega.{arith}
 use lib.ListN.{get_or}
 use Rattle.model.specs.Lists.{up_from}
 use Rattle.theory.specs.engine.Interval.{least_in}
 use Rattle.costs.specs.Rows.{illegal_cost}
-use Rattle.costs.proofs.Runs.{run-next, run-all}
 use Rattle.costs.proofs.least_cost.Given as goal
 
 abbrev pub invariant-loop-l : goal.invariant-loop-l

@@ -2,7 +2,6 @@
 -- Assumes nothing.
 use mathlib.Core.Path.{refl}
 use Rattle.costs.proofs.Written.{legal-yes, legal-no}
-use Rattle.std.proofs.Common.{rules}
 use Rattle.costs.proofs.legal_cost.Goals as goal
 
 pub returns-then-legal-l-eq1 : goal.returns-then-legal-l-eq1

@@ -1,7 +1,6 @@
 -- `meet` meets its contract.
 -- Assumes nothing.
 use Rattle.costs.proofs.Steps.{met-list}
-use Rattle.std.proofs.Common.{rules}
 use Rattle.costs.proofs.meet.Goals as goal
 
 pub returns : goal.returns

@@ -4,7 +4,6 @@ use Prim.Native.Nat.{◌+◌}
 use lib.ListN.{get_or}
 use Rattle.costs.specs.Sweeps.{swept}
 use Rattle.costs.proofs.Steps.{small-swept, pair-list}
-use Rattle.std.proofs.Common.{rules}
 use Rattle.costs.proofs.pair_costs.Goals as goal
 
 pub meet-requires : goal.meet-requires

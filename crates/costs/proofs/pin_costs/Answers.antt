@@ -5,7 +5,6 @@ use lib.ListN.{get_or}
 use Rattle.sets.specs.Mask.{with_layer, span_of}
 use Rattle.costs.specs.Sweeps.{swept}
 use Rattle.costs.proofs.Steps.{small-swept, small-leaf, pair-list}
-use Rattle.std.proofs.Common.{rules}
 use Rattle.costs.proofs.pin_costs.Goals as goal
 
 pub meet-requires : goal.meet-requires

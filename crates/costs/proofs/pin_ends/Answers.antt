@@ -2,7 +2,6 @@
 -- Assumes nothing.
 use native.Mathlib.Omega.{arith}
 use Rattle.costs.proofs.Steps.{ends-none, ends_some}
-use Rattle.std.proofs.Common.{rules}
 use Rattle.costs.proofs.pin_ends.Goals as goal
 
 pub returns-then-pins-eq0 : goal.returns-then-pins-eq0

@@ -1,12 +1,8 @@
 -- `put_row` meets its contract.
 -- Assumes nothing.
-use mathlib.Core.Path.{◌≡◌, refl}
-use Prim.Native.Nat.{◌-◌}
+use mathlib.Core.Path.{refl}
 use native.Mathlib.Omega.{arith}
-use lib.ListN.{length}
-use Rattle.costs.specs.Rows.{RowPut}
 use Rattle.costs.proofs.Written.{put-none, put-more, put_all}
-use Rattle.std.proofs.Common.{rules}
 use Rattle.costs.proofs.put_row.Goals as goal
 
 pub loop-l-init : goal.loop-l-init

@@ -1,11 +1,9 @@
 -- `put_row` meets its contract.
 -- Assumes nothing.
-use mathlib.Core.Path.{◌≡◌, refl}
+use mathlib.Core.Path.{◌≡◌}
 use Prim.Native.Nat.{◌-◌}
-use native.Mathlib.Omega.{arith}
 use lib.ListN.{length}
 use Rattle.costs.specs.Rows.{RowPut}
-use Rattle.costs.proofs.Written.{put-none, put-more, put_all}
 use Rattle.costs.proofs.put_row.Given as goal
 
 abbrev pub invariant-loop-l : goal.invariant-loop-l

@@ -3,7 +3,6 @@
 use native.Mathlib.Omega.{arith}
 use Rattle.costs.proofs.Written.{root-asks}
 use Rattle.costs.proofs.Root.{root-least-is}
-use Rattle.std.proofs.Common.{rules}
 use Rattle.costs.proofs.root_least.Goals as goal
 
 pub tile_costs-c-requires : goal.tile_costs-c-requires

@@ -1,11 +1,8 @@
 -- `sum_of` meets its contract.
 -- Assumes nothing.
-use mathlib.Core.Path.{refl}
 use Prim.Native.Nat.{◌+◌, ◌-◌}
-use native.Mathlib.Omega.{arith}
 use lib.ListN.{get_or}
 use Rattle.costs.specs.Rows.{Eight}
-use Rattle.costs.proofs.Steps.{eight-none, eight-more, eight-all}
 use Rattle.costs.proofs.sum_of.Given as goal
 
 abbrev pub invariant-loop-l : goal.invariant-loop-l

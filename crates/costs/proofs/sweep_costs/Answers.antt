@@ -4,7 +4,6 @@ use Prim.Native.Nat.{suc, ◌+◌}
 use native.Mathlib.Omega.{arith}
 use lib.ListN.{get_or}
 use Rattle.costs.proofs.Steps.{up_small, swept-both}
-use Rattle.std.proofs.Common.{rules}
 use Rattle.costs.proofs.sweep_costs.Goals as goal
 
 pub sweep_down-requires : goal.sweep_down-requires

@@ -1,12 +1,11 @@
 -- `sweep_down` meets its contract.
 -- Assumes nothing.
 use mathlib.Core.Path.{◌≡◌, ◌∙◌}
-use Prim.Native.Nat.{◌-◌, ◌≤◌}
+use Prim.Native.Nat.{◌-◌}
 use native.Mathlib.Omega.{arith}
 use lib.ListN.{get_or}
 use Rattle.costs.specs.Sweeps.{swept_down}
-use Rattle.costs.proofs.Steps.{FilledDown, down-none, down-more, down-all, swept-down-none, swept-down-more, swept-down-top}
-use Rattle.std.proofs.Common.{rules}
+use Rattle.costs.proofs.Steps.{down-none, down-more, down-all, swept-down-none, swept-down-more, swept-down-top}
 use Rattle.costs.proofs.sweep_down.Goals as goal
 use Rattle.costs.proofs.sweep_down.Goals.{After-least_of-x}
 

@@ -1,11 +1,10 @@
 -- `sweep_down` meets its contract.
 -- Assumes nothing.
-use mathlib.Core.Path.{◌≡◌, ◌∙◌}
+use mathlib.Core.Path.{◌≡◌}
 use Prim.Native.Nat.{◌-◌, ◌≤◌}
-use native.Mathlib.Omega.{arith}
 use lib.ListN.{get_or}
 use Rattle.costs.specs.Sweeps.{swept_down}
-use Rattle.costs.proofs.Steps.{FilledDown, down-none, down-more, down-all, swept-down-none, swept-down-more, swept-down-top}
+use Rattle.costs.proofs.Steps.{FilledDown}
 use Rattle.costs.proofs.sweep_down.Given as goal
 
 abbrev pub invariant-loop-l : goal.invariant-loop-l

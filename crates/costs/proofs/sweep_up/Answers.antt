@@ -1,14 +1,13 @@
 -- `sweep_up` meets its contract.
 -- Assumes nothing.
 use mathlib.Core.Path.{◌≡◌, refl, ◌∙◌, ap}
-use Prim.Native.Nat.{ℕ, suc, ◌+◌, ◌-◌, min}
+use Prim.Native.Nat.{ℕ, suc, ◌+◌, min}
 use native.Mathlib.Omega.{arith}
 use native.Mathlib.Numerals.{add-one}
 use lib.ListN.{get_or}
-use Rattle.costs.specs.Rows.{illegal_cost, Eight}
+use Rattle.costs.specs.Rows.{illegal_cost}
 use Rattle.costs.specs.Sweeps.{swept_up}
 use Rattle.costs.proofs.Steps.{eight-none, eight-more, eight-all, up_small, swept-up-more}
-use Rattle.std.proofs.Common.{rules}
 use Rattle.costs.proofs.sweep_up.Goals as goal
 use Rattle.costs.proofs.sweep_up.Goals.{After-least_of-x}
 

@@ -1,13 +1,10 @@
 -- `sweep_up` meets its contract.
 -- Assumes nothing.
-use mathlib.Core.Path.{◌≡◌, refl, ◌∙◌, ap}
-use Prim.Native.Nat.{ℕ, suc, ◌+◌, ◌-◌, min}
-use native.Mathlib.Omega.{arith}
-use native.Mathlib.Numerals.{add-one}
+use mathlib.Core.Path.{◌≡◌}
+use Prim.Native.Nat.{suc, ◌+◌, ◌-◌}
 use lib.ListN.{get_or}
-use Rattle.costs.specs.Rows.{illegal_cost, Eight}
+use Rattle.costs.specs.Rows.{Eight}
 use Rattle.costs.specs.Sweeps.{swept_up}
-use Rattle.costs.proofs.Steps.{eight-none, eight-more, eight-all, up_small, swept-up-more}
 use Rattle.costs.proofs.sweep_up.Given as goal
 
 abbrev pub invariant-loop-l : goal.invariant-loop-l

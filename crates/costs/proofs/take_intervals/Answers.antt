@@ -1,12 +1,11 @@
 -- `take_intervals` meets its contract. The loop's invariant: the layers from b on have taken the least of the ends, and `least` is the least so far.
 -- Assumes nothing.
 use mathlib.Core.Path.{◌≡◌, ◌∙◌, ap₂}
-use Prim.Native.Nat.{ℕ, ◌-◌, ◌≤◌, min}
+use Prim.Native.Nat.{ℕ, ◌-◌, min}
 use native.Mathlib.Omega.{arith}
 use lib.ListN.{get_or}
 use Rattle.costs.specs.Intervals.{least_end}
-use Rattle.costs.proofs.Steps.{FilledDown, down-none, down-more, end_none, end_more}
-use Rattle.std.proofs.Common.{rules}
+use Rattle.costs.proofs.Steps.{down-none, down-more, end_none, end_more}
 use Rattle.costs.proofs.take_intervals.Goals as goal
 use Rattle.costs.proofs.take_intervals.Goals.{After-least_of}
 

@@ -1,11 +1,10 @@
 -- `take_intervals` meets its contract. The loop's invariant: the layers from b on have taken the least of the ends, and `least` is the least so far.
 -- Assumes nothing.
-use mathlib.Core.Path.{◌≡◌, ◌∙◌, ap₂}
-use Prim.Native.Nat.{ℕ, ◌-◌, ◌≤◌, min}
-use native.Mathlib.Omega.{arith}
+use mathlib.Core.Path.{◌≡◌}
+use Prim.Native.Nat.{◌≤◌, min}
 use lib.ListN.{get_or}
 use Rattle.costs.specs.Intervals.{least_end}
-use Rattle.costs.proofs.Steps.{FilledDown, down-none, down-more, end_none, end_more}
+use Rattle.costs.proofs.Steps.{FilledDown}
 use Rattle.costs.proofs.take_intervals.Given as goal
 
 abbrev pub invariant-loop-b : goal.invariant-loop-b

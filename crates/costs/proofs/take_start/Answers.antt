@@ -1,7 +1,6 @@
 -- `take_start` meets its contract.
 -- Assumes nothing.
 use Rattle.costs.proofs.Steps.{around-more}
-use Rattle.std.proofs.Common.{rules}
 use Rattle.costs.proofs.take_start.Goals as goal
 
 pub returns : goal.returns

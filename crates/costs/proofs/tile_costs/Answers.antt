@@ -5,7 +5,6 @@ use Prim.Native.Nat.{ℕ}
 use native.Mathlib.Omega.{arith}
 use Rattle.costs.specs.Rows.{TileCosts, LayerMask}
 use Rattle.costs.proofs.Tiles.{leaf-costs, sweep-costs, interval-costs}
-use Rattle.std.proofs.Common.{rules}
 use Rattle.costs.proofs.tile_costs.Goals as goal
 
 pub leaf_costs-requires : goal.leaf_costs-requires

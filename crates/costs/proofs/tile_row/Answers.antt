@@ -4,7 +4,6 @@ use Prim.Native.Nat.{ℕ, ◌-◌, ◌≤◌}
 use lib.ListN.{get_or}
 use native.Mathlib.Omega.{arith}
 use Rattle.costs.proofs.Written.{put_all, row-asks, tile-written}
-use Rattle.std.proofs.Common.{rules}
 use Rattle.costs.proofs.tile_row.Goals as goal
 use Rattle.costs.proofs.tile_row.Goals.{After-at-legal}
 

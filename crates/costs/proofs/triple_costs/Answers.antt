@@ -4,7 +4,6 @@ use Prim.Native.Nat.{ℕ, ◌+◌}
 use lib.ListN.{get_or}
 use Rattle.costs.specs.Sweeps.{swept}
 use Rattle.costs.proofs.Steps.{small-swept, small-met, pair-list, triple-list}
-use Rattle.std.proofs.Common.{rules}
 use Rattle.costs.proofs.triple_costs.Goals as goal
 
 pub meet-yz-requires : goal.meet-yz-requires

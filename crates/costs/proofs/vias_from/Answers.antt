@@ -1,11 +1,8 @@
 -- `vias_from` meets its contract.
 -- Assumes nothing.
 use mathlib.Core.Path.{refl}
-use Prim.Native.Nat.{◌-◌, ◌≤◌}
 use native.Mathlib.Omega.{arith}
-use Rattle.costs.specs.Rows.{Eight}
 use Rattle.costs.proofs.Steps.{eight-none, eight-more, eight-all}
-use Rattle.std.proofs.Common.{rules}
 use Rattle.costs.proofs.vias_from.Goals as goal
 
 pub loop-b-init : goal.loop-b-init

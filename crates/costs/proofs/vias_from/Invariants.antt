@@ -1,10 +1,7 @@
 -- `vias_from` meets its contract.
 -- Assumes nothing.
-use mathlib.Core.Path.{refl}
 use Prim.Native.Nat.{◌-◌, ◌≤◌}
-use native.Mathlib.Omega.{arith}
 use Rattle.costs.specs.Rows.{Eight}
-use Rattle.costs.proofs.Steps.{eight-none, eight-more, eight-all}
 use Rattle.costs.proofs.vias_from.Given as goal
 
 abbrev pub invariant-loop-b : goal.invariant-loop-b

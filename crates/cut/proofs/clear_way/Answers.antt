@@ -7,7 +7,6 @@ use native.Mathlib.Omega.{arith}
 use lib.ListN.{length}
 use Rattle.marks.specs.Marks.{marked, unmark, unmark-long}
 use Rattle.cut.specs.Stripping.{back_of}
-use Rattle.std.proofs.Common.{rules}
 use Rattle.cut.proofs.clear_way.Goals as goal
 
 pub clear_mark-requires : goal.clear_mark-requires

@@ -4,7 +4,6 @@ use mathlib.Core.Path.{◌∙◌}
 use native.Mathlib.Omega.{arith}
 use Rattle.cut.specs.Net.{CutMarked, entries-there, some-entry}
 use Rattle.cut.specs.Dropped.{still-counting, cut-done}
-use Rattle.std.proofs.Common.{rules}
 use Rattle.cut.proofs.cut_net.Goals as goal
 use Rattle.cut.proofs.cut_net.Goals.{After-mark_net}
 

@@ -11,7 +11,6 @@ use Rattle.model.specs.Read.{Triple}
 use Rattle.scan.specs.Pins.{triple}
 use Rattle.ways.specs.Entry.{edge_of}
 use Rattle.cut.specs.Dropped.{Uncounted, uncounted-keeps, uncounted-drops}
-use Rattle.std.proofs.Common.{rules}
 use Rattle.cut.proofs.drop_edge.Goals as goal
 use Rattle.cut.proofs.drop_edge.Goals.{After-edge_of, Start}
 

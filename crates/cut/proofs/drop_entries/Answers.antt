@@ -3,17 +3,16 @@
 use mathlib.Core.Bool.{not}
 use mathlib.Core.List.{List, [], ◌∷◌, ◌++◌}
 use mathlib.Core.Path.{◌≡◌, sym, subst, ◌∙◌}
-use Prim.Native.Nat.{ℕ, ◌+◌, ◌-◌}
+use Prim.Native.Nat.{ℕ, ◌+◌}
 use native.Mathlib.Omega.{arith}
 use lib.ListN.{length}
-use Rattle.known.specs.Taken.{Taken, taken_start, taken-short, taken-inside, taken-new, taken_in, taken-room, taken-last, taken_more, taken-place}
+use Rattle.known.specs.Taken.{taken_start, taken-short, taken-inside, taken-new, taken_in, taken-room, taken-last, taken_more, taken-place}
 use Rattle.model.specs.Lists.{has}
 use Rattle.net.specs.AtHand.{Drawn}
 use Rattle.scan.specs.Pins.{triple}
 use Rattle.theory.specs.congestion.Sums.{keep-shorter}
 use Rattle.ways.specs.Entry.{edge_of, placed}
 use Rattle.cut.specs.Dropped.{Uncounted, Dropping, uncounted-none, tiles-kept, still-counted}
-use Rattle.std.proofs.Common.{rules}
 use Rattle.cut.proofs.drop_entries.Goals as goal
 use Rattle.cut.proofs.drop_entries.Goals.{After-drop_edge-dropped, At-loop-g}
 

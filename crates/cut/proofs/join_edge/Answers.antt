@@ -14,7 +14,6 @@ use Rattle.theory.specs.links.Reach.{hi_of}
 use Rattle.union.specs.Links.{Merged}
 use Rattle.ways.specs.Entry.{start_of, edge_of, Placed, placed, ends_there}
 use Rattle.cut.specs.Joining.{joined-closes, joined-joins}
-use Rattle.std.proofs.Common.{rules}
 use Rattle.cut.proofs.join_edge.Goals as goal
 use Rattle.cut.proofs.join_edge.Goals.{After-put_join, After-way_out-out, Start}
 

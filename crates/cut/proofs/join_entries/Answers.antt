@@ -1,14 +1,12 @@
 -- `join_entries` meets its contract. The loop's invariant: the entries before the place at hand are joined.
 -- Assumes nothing.
 use mathlib.Core.List.{List, [], ◌∷◌, ◌++◌}
-use Prim.Native.Nat.{ℕ, ◌-◌}
+use Prim.Native.Nat.{ℕ}
 use native.Mathlib.Omega.{arith}
-use lib.ListN.{length}
-use Rattle.known.specs.Taken.{Taken, taken_start, taken-short, taken-inside, taken-new, taken-last, taken_more, taken-place}
+use Rattle.known.specs.Taken.{taken_start, taken-short, taken-inside, taken-new, taken-last, taken_more, taken-place}
 use Rattle.scan.specs.Pins.{triple}
 use Rattle.ways.specs.Entry.{edge_of}
 use Rattle.cut.specs.Joining.{Joined, joined-start}
-use Rattle.std.proofs.Common.{rules}
 use Rattle.cut.proofs.join_entries.Goals as goal
 use Rattle.cut.proofs.join_entries.Goals.{After-join_edge, At-loop-g}
 

@@ -1,13 +1,9 @@
 -- `join_entries` meets its contract. The loop's invariant: the entries before the place at hand are joined.
 -- Assumes nothing.
-use mathlib.Core.List.{List, [], ◌∷◌, ◌++◌}
-use Prim.Native.Nat.{ℕ, ◌-◌}
-use native.Mathlib.Omega.{arith}
+use Prim.Native.Nat.{◌-◌}
 use lib.ListN.{length}
-use Rattle.known.specs.Taken.{Taken, taken_start, taken-short, taken-inside, taken-new, taken-last, taken_more, taken-place}
-use Rattle.scan.specs.Pins.{triple}
-use Rattle.ways.specs.Entry.{edge_of}
-use Rattle.cut.specs.Joining.{Joined, joined-start}
+use Rattle.known.specs.Taken.{Taken}
+use Rattle.cut.specs.Joining.{Joined}
 use Rattle.cut.proofs.join_entries.Given as goal
 
 abbrev pub invariant-loop-g : goal.invariant-loop-g

@@ -5,12 +5,10 @@ use mathlib.Core.List.{List}
 use mathlib.Core.Bool.{false, true}
 use mathlib.Core.Logic.{◌≢◌}
 use Prim.Native.Nat.{ℕ, ◌+◌, ◌*◌, max, min}
-use native.Mathlib.Omega.{arith}
 use lib.ListN.{set}
 use Rattle.marks.specs.Words.{stamp_unit}
 use Rattle.union.specs.Links.{Merged}
 use Rattle.union.proofs.Words.{merged-one, merged-two}
-use Rattle.std.proofs.Common.{rules}
 use Rattle.cut.proofs.join_tiles.Goals as goal
 use Rattle.cut.proofs.join_tiles.Goals.{After-slice_known-3-1}
 

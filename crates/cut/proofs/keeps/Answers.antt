@@ -2,7 +2,6 @@
 -- Assumes nothing.
 use mathlib.Core.Path.{◌≡◌, sym, ap, ap₂, ◌∙◌}
 use Prim.Native.Nat.{ℕ, ◌+◌}
-use native.Mathlib.Omega.{arith}
 use lib.ListN.{get_or}
 use Rattle.layout.specs.Areas.{tiles_at, tiles_of}
 use Rattle.layout.specs.Parts.{part_at}
@@ -11,7 +10,6 @@ use Rattle.model.specs.Read.{Triple}
 use Rattle.scan.specs.Pins.{triple}
 use Rattle.ways.specs.Entry.{start_of, Placed, placed}
 use Rattle.cut.specs.Stripping.{start-marked}
-use Rattle.std.proofs.Common.{rules}
 use Rattle.cut.proofs.keeps.Goals as goal
 use Rattle.cut.proofs.keeps.Goals.{Start}
 

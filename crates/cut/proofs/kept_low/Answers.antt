@@ -7,7 +7,6 @@ use Rattle.model.specs.Read.{Triple}
 use Rattle.scan.specs.Pins.{triple}
 use Rattle.theory.specs.links.Reach.{lo_of}
 use Rattle.ways.specs.Entry.{edge_of, Placed, placed}
-use Rattle.std.proofs.Common.{rules}
 use Rattle.cut.proofs.kept_low.Goals as goal
 use Rattle.cut.proofs.kept_low.Goals.{Start}
 

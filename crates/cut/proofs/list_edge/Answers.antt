@@ -8,7 +8,6 @@ use Rattle.layout.specs.Parts.{set-outside, outside_wider}
 use Rattle.scan.specs.Pins.{triple}
 use Rattle.ways.specs.Entry.{edge_of}
 use Rattle.cut.specs.Listing.{listed_more}
-use Rattle.std.proofs.Common.{rules}
 use Rattle.cut.proofs.list_edge.Goals as goal
 
 pub kept_low-low-requires : goal.kept_low-low-requires

@@ -3,17 +3,16 @@
 use mathlib.Core.List.{List, [], ◌∷◌, ◌++◌}
 use mathlib.Core.Logic.{inl}
 use mathlib.Core.Path.{◌≡◌, sym, subst, ◌∙◌}
-use Prim.Native.Nat.{ℕ, ◌+◌, ◌-◌, ◌*◌}
+use Prim.Native.Nat.{ℕ, ◌*◌}
 use native.Mathlib.Omega.{arith}
 use lib.ListN.{length}
-use Rattle.known.specs.Taken.{Taken, taken_start, taken-short, taken-inside, taken-room, taken-last, taken_more, taken-place}
+use Rattle.known.specs.Taken.{taken_start, taken-short, taken-inside, taken-room, taken-last, taken_more, taken-place}
 use Rattle.layout.specs.Areas.{tiles_at, list_at, tiles_of}
 use Rattle.layout.specs.Parts.{part-outside}
 use Rattle.net.specs.AtHand.{Drawn}
 use Rattle.scan.specs.Pins.{triple}
 use Rattle.ways.specs.Entry.{edge_of}
 use Rattle.cut.specs.Listing.{Listed, Listing, listed-none}
-use Rattle.std.proofs.Common.{rules}
 use Rattle.cut.proofs.list_entries.Goals as goal
 use Rattle.cut.proofs.list_entries.Goals.{After-list_edge-v, At-loop-g}
 

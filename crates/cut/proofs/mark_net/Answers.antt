@@ -6,7 +6,6 @@ use native.Mathlib.Omega.{arith}
 use Rattle.netread.specs.Net.{PinsPut}
 use Rattle.cut.specs.Joining.{Joined}
 use Rattle.cut.specs.Net.{pins-there, entries-there, some-entry, fits-pins, older-links, strippable, cut-marked}
-use Rattle.std.proofs.Common.{rules}
 use Rattle.cut.proofs.mark_net.Goals as goal
 use Rattle.cut.proofs.mark_net.Goals.{After-join_entries, After-put_pins-low}
 

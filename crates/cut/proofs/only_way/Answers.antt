@@ -2,7 +2,6 @@
 -- Assumes nothing.
 use native.Mathlib.Omega.{arith}
 use Rattle.cut.specs.Bare.{way-first, way-second, way-third, way-fourth, way-other}
-use Rattle.std.proofs.Common.{rules}
 use Rattle.cut.proofs.only_way.Goals as goal
 
 pub returns-then-m-eq256 : goal.returns-then-m-eq256

@@ -8,7 +8,6 @@ use Rattle.layout.specs.Areas.{links_at, links_of}
 use Rattle.layout.specs.Parts.{part-long}
 use Rattle.union.specs.Links.{Merged}
 use Rattle.layout.specs.Lent.{lent-part, put-part, put-outside}
-use Rattle.std.proofs.Common.{rules}
 use Rattle.cut.proofs.put_join.Goals as goal
 
 pub join_tiles-requires : goal.join_tiles-requires

@@ -1,10 +1,8 @@
 -- `read_net` meets its contract: what the net keeps is marked, and all its entries are listed.
 -- Assumes nothing.
-use mathlib.Core.Path.{◌∙◌}
 use native.Mathlib.Omega.{arith}
 use Rattle.cut.specs.Net.{CutMarked, entries-there, some-entry}
 use Rattle.cut.specs.Listing.{ring-read}
-use Rattle.std.proofs.Common.{rules}
 use Rattle.cut.proofs.read_net.Goals as goal
 use Rattle.cut.proofs.read_net.Goals.{After-mark_net-low}
 

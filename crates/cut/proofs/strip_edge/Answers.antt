@@ -9,7 +9,6 @@ use Rattle.scan.specs.Pins.{triple}
 use Rattle.theory.specs.links.Reach.{lo_of, hi_of}
 use Rattle.ways.specs.Entry.{edge_of, Placed, placed, ends_there}
 use Rattle.cut.specs.Strips.{Stripped, stripped-then, still-strippable}
-use Rattle.std.proofs.Common.{rules}
 use Rattle.cut.proofs.strip_edge.Goals as goal
 use Rattle.cut.proofs.strip_edge.Goals.{After-strip_from, After-way_out-out, Start}
 

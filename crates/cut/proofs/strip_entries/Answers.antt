@@ -2,14 +2,12 @@
 -- Assumes nothing.
 use mathlib.Core.List.{List, [], ◌∷◌, ◌++◌}
 use mathlib.Core.Path.{sym, subst, ◌∙◌}
-use Prim.Native.Nat.{ℕ, ◌-◌}
+use Prim.Native.Nat.{ℕ}
 use native.Mathlib.Omega.{arith}
-use lib.ListN.{length}
-use Rattle.known.specs.Taken.{Taken, taken_start, taken-short, taken-inside, taken-last, taken_more, taken-place}
+use Rattle.known.specs.Taken.{taken_start, taken-short, taken-inside, taken-last, taken_more, taken-place}
 use Rattle.scan.specs.Pins.{triple}
 use Rattle.ways.specs.Entry.{edge_of}
 use Rattle.cut.specs.Strips.{both_tiles, tiles_more, Stripped, stripped-none, stripped-then, still-strippable}
-use Rattle.std.proofs.Common.{rules}
 use Rattle.cut.proofs.strip_entries.Goals as goal
 use Rattle.cut.proofs.strip_entries.Goals.{After-strip_edge, At-loop-g}
 

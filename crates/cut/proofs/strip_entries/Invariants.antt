@@ -1,14 +1,9 @@
 -- `strip_entries` meets its contract. The loop's invariant: the tiles of the entries before the place at hand were stripped from.
 -- Assumes nothing.
-use mathlib.Core.List.{List, [], ◌∷◌, ◌++◌}
-use mathlib.Core.Path.{sym, subst, ◌∙◌}
-use Prim.Native.Nat.{ℕ, ◌-◌}
-use native.Mathlib.Omega.{arith}
+use Prim.Native.Nat.{◌-◌}
 use lib.ListN.{length}
-use Rattle.known.specs.Taken.{Taken, taken_start, taken-short, taken-inside, taken-last, taken_more, taken-place}
-use Rattle.scan.specs.Pins.{triple}
-use Rattle.ways.specs.Entry.{edge_of}
-use Rattle.cut.specs.Strips.{both_tiles, tiles_more, Stripped, stripped-none, stripped-then, still-strippable}
+use Rattle.known.specs.Taken.{Taken}
+use Rattle.cut.specs.Strips.{both_tiles, Stripped}
 use Rattle.cut.proofs.strip_entries.Given as goal
 
 abbrev pub invariant-loop-g : goal.invariant-loop-g

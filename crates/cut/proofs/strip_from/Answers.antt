@@ -11,7 +11,6 @@ use Rattle.marks.specs.Marks.{bits_at, marked, unmark}
 use Rattle.cut.specs.Bare.{way_in}
 use Rattle.cut.specs.Stripping.{back_of, cleared}
 use Rattle.cut.proofs.Turns.{Going, going_start, going-out, going-ends, takes, clears, going_on}
-use Rattle.std.proofs.Common.{rules}
 use Rattle.cut.proofs.strip_from.Goals as goal
 use Rattle.cut.proofs.strip_from.Goals.{After-only_way-d, After-way_out-out, Else-d-eq4}
 

@@ -9,7 +9,6 @@ use Rattle.layout.specs.Areas.{tiles_at, tiles_of}
 use Rattle.layout.specs.Lent.{lent-part, put-part, put-outside}
 use Rattle.layout.specs.Parts.{part-long}
 use Rattle.cut.specs.Strips.{both_tiles, Strippable, Stripped}
-use Rattle.std.proofs.Common.{rules}
 use Rattle.cut.proofs.strip_net.Goals as goal
 
 pub strip_entries-requires : goal.strip_entries-requires

@@ -2,15 +2,13 @@
 -- Assumes nothing.
 use mathlib.Core.Bool.{Bool, true, false, cond}
 use mathlib.Core.List.{List}
-use mathlib.Core.Path.{◌≡◌, refl, ap, ◌∙◌, sym}
+use mathlib.Core.Path.{◌≡◌, ap, ◌∙◌, sym}
 use Prim.Native.Nat.{ℕ, suc, ◌+◌, ◌-◌, ◌≤◌, ◌<◌}
 use native.Mathlib.Omega.{arith}
 use borrow.Author.Tests.{lt-ltb, le-ltb}
 use lib.Dec.{ltb}
 use Rattle.layout.specs.Table.{low_in}
 use Rattle.model.specs.Lists.{up_from, any}
-use Rattle.directives.specs.Counts.{any_low}
-use Rattle.std.proofs.Common.{rules}
 use Rattle.directives.proofs.any_low.Goals as goal
 
 -- the nets from i on are left to look at

@@ -15,7 +15,6 @@ use Rattle.directives.specs.Asked.{Asked, SomeNet}
 use Rattle.directives.specs.Counts.{cell, Few}
 use Rattle.directives.specs.Marked.{cell-inside}
 use Rattle.directives.proofs.Nets.{line-ring, low_is, net-recounted}
-use Rattle.std.proofs.Common.{rules}
 use Rattle.directives.proofs.count_cut.Goals as goal
 use Rattle.directives.proofs.count_cut.Goals.{After-count_kept, After-index-edges, After-mark_net}
 

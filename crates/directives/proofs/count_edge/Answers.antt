@@ -5,11 +5,9 @@ use mathlib.Core.Path.{◌≡◌}
 use Prim.Native.Nat.{ℕ, ◌+◌, ◌-◌, ◌<◌}
 use native.Mathlib.Omega.{arith}
 use lib.ListN.{length, get_or, set}
-use Rattle.layout.specs.Areas.{demand_at}
 use Rattle.layout.specs.declared.Shape.{Shape}
 use Rattle.directives.specs.Counts.{cell, one_more}
 use Rattle.directives.specs.Marked.{cell-inside}
-use Rattle.std.proofs.Common.{rules}
 use Rattle.directives.proofs.count_edge.Goals as goal
 use Rattle.directives.proofs.count_edge.Goals.{After-edge_at}
 

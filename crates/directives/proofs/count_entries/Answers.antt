@@ -2,15 +2,14 @@
 -- Assumes nothing.
 use mathlib.Core.List.{List, [], ◌∷◌, ◌++◌}
 use mathlib.Core.Path.{◌≡◌}
-use Prim.Native.Nat.{ℕ, ◌-◌, ◌≤◌, ◌<◌}
+use Prim.Native.Nat.{ℕ, ◌≤◌, ◌<◌}
 use native.Mathlib.Omega.{arith}
 use lib.ListN.{length}
-use Rattle.known.specs.Taken.{Taken, taken_start, taken-short, taken-inside, taken-new, taken-last, taken_more, taken-place}
+use Rattle.known.specs.Taken.{taken_start, taken-short, taken-inside, taken-new, taken-last, taken_more, taken-place}
 use Rattle.layout.specs.Areas.{demand_at}
 use Rattle.scan.specs.Pins.{triple}
 use Rattle.ways.specs.Entry.{edge_of, placed}
 use Rattle.directives.specs.Counting.{AllCounted, all_none, next-room, all_more}
-use Rattle.std.proofs.Common.{rules}
 use Rattle.directives.proofs.count_entries.Goals as goal
 use Rattle.directives.proofs.count_entries.Goals.{After-count_entry, After-edge_at-e, At-loop-g}
 

@@ -5,7 +5,6 @@ use Prim.Native.Nat.{ℕ}
 use native.Mathlib.Omega.{arith}
 use lib.ListN.{get_or}
 use Rattle.directives.specs.Counts.{cell, one_more}
-use Rattle.std.proofs.Common.{rules}
 use Rattle.directives.proofs.count_entry.Goals as goal
 
 pub edge_of-edge-requires : goal.edge_of-edge-requires

@@ -10,7 +10,6 @@ use Rattle.scan.specs.Pins.{triple}
 use Rattle.ways.specs.Entry.{edge_of, placed}
 use Rattle.directives.specs.Counting.{kept-counted, kept-passed}
 use Rattle.directives.specs.Marked.{one-long}
-use Rattle.std.proofs.Common.{rules}
 use Rattle.directives.proofs.count_if_kept.Goals as goal
 use Rattle.directives.proofs.count_if_kept.Goals.{After-count_entry, After-keeps}
 

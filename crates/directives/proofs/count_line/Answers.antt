@@ -1,11 +1,10 @@
 -- `count_line` meets its contract: an empty line has no edges to count.
 -- Assumes nothing.
-use mathlib.Core.List.{List, []}
-use mathlib.Core.Path.{◌≡◌, refl, sym, ap}
+use mathlib.Core.List.{List}
+use mathlib.Core.Path.{refl, sym, ap}
 use Prim.Native.Nat.{ℕ}
 use Rattle.net.specs.Left.{edges-place, edges_none}
 use Rattle.directives.specs.Counts.{marked}
-use Rattle.std.proofs.Common.{rules}
 use Rattle.directives.proofs.count_line.Goals as goal
 
 pub bounds-s-at : goal.bounds-s-at

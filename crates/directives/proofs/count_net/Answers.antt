@@ -12,7 +12,6 @@ use Rattle.net.specs.Dropped.{Remarked, remarked-same}
 use Rattle.directives.specs.Asked.{SomeNet}
 use Rattle.directives.specs.Counts.{marked}
 use Rattle.directives.proofs.Nets.{line_at, line-there, line-all, low_is, net-recounted, net-passed}
-use Rattle.std.proofs.Common.{rules}
 use Rattle.directives.proofs.count_net.Goals as goal
 use Rattle.directives.proofs.count_net.Goals.{After-dropped_in, After-index-at, After-low_in-low}
 

@@ -1,11 +1,10 @@
 -- `count_nets` meets its contract. The loop's invariant: the first i nets are counted (`Nets.antt`).
 -- Assumes nothing.
-use Prim.Native.Nat.{◌-◌, ◌≤◌}
+use Prim.Native.Nat.{◌≤◌}
 use native.Mathlib.Omega.{arith}
 use lib.ListN.{length}
 use Rattle.layout.specs.Areas.{demand_at}
-use Rattle.directives.proofs.Nets.{Counted, counted_start, next-there, next-stamp, counted_next, counted-done}
-use Rattle.std.proofs.Common.{rules}
+use Rattle.directives.proofs.Nets.{counted_start, next-there, next-stamp, counted_next, counted-done}
 use Rattle.directives.proofs.count_nets.Goals as goal
 use Rattle.directives.proofs.count_nets.Goals.{At-loop-i}
 

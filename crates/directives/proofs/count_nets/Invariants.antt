@@ -1,10 +1,7 @@
 -- `count_nets` meets its contract. The loop's invariant: the first i nets are counted (`Nets.antt`).
 -- Assumes nothing.
-use Prim.Native.Nat.{◌-◌, ◌≤◌}
-use native.Mathlib.Omega.{arith}
-use lib.ListN.{length}
-use Rattle.layout.specs.Areas.{demand_at}
-use Rattle.directives.proofs.Nets.{Counted, counted_start, next-there, next-stamp, counted_next, counted-done}
+use Prim.Native.Nat.{◌-◌}
+use Rattle.directives.proofs.Nets.{Counted}
 use Rattle.directives.proofs.count_nets.Given as goal
 
 abbrev pub invariant-loop-i : goal.invariant-loop-i

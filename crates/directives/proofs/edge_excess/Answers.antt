@@ -5,10 +5,9 @@ use mathlib.Core.Path.{◌≡◌, refl, ap}
 use Prim.Native.Nat.{ℕ, ◌+◌, ◌-◌, ◌*◌, ◌≤◌, ◌<◌}
 use native.Mathlib.Omega.{arith}
 use lib.ListN.{length, get_or}
-use Rattle.layout.specs.Areas.{loads_at, demand_at}
+use Rattle.layout.specs.Areas.{loads_at}
 use Rattle.model.specs.Limits.{most_capacity, most_nets}
 use Rattle.directives.proofs.Falling.{Falling, falling-start, falling-next, falling-done}
-use Rattle.std.proofs.Common.{rules}
 use Rattle.directives.proofs.edge_excess.Goals as goal
 use Rattle.directives.proofs.edge_excess.Goals.{After-loads_at, In-loop-t}
 

@@ -1,13 +1,6 @@
 -- `edge_excess` meets its contract. The loop's invariant: the layers above t are done (`Falling.antt`).
 -- Assumes nothing.
-use mathlib.Core.List.{List}
-use mathlib.Core.Path.{◌≡◌, refl, ap}
-use Prim.Native.Nat.{ℕ, ◌+◌, ◌-◌, ◌*◌, ◌≤◌, ◌<◌}
-use native.Mathlib.Omega.{arith}
-use lib.ListN.{length, get_or}
-use Rattle.layout.specs.Areas.{loads_at, demand_at}
-use Rattle.model.specs.Limits.{most_capacity, most_nets}
-use Rattle.directives.proofs.Falling.{Falling, falling-start, falling-next, falling-done}
+use Rattle.directives.proofs.Falling.{Falling}
 use Rattle.directives.proofs.edge_excess.Given as goal
 
 abbrev pub invariant-loop-t : goal.invariant-loop-t

@@ -1,7 +1,6 @@
 -- `excess_of` meets its contract.
 -- Assumes nothing.
 use native.Mathlib.Omega.{arith}
-use Rattle.std.proofs.Common.{rules}
 use Rattle.directives.proofs.excess_of.Goals as goal
 
 pub returns-then-demand-room : goal.returns-then-demand-room

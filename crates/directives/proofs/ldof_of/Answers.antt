@@ -6,7 +6,6 @@ use mathlib.Core.Path.{sym, ◌∙◌, subst}
 use Prim.Native.Nat.{ℕ, suc, ◌*◌, ◌≤◌, ◌<◌}
 use native.Mathlib.Omega.{arith}
 use lib.ListN.{length}
-use borrow.Author.Tests.{not-true, not-false}
 use Rattle.layout.specs.Areas.{loads_at, demand_at}
 use Rattle.layout.specs.Fill.{PartCleared}
 use Rattle.net.specs.Dropped.{Remarked, remarked-same}
@@ -14,7 +13,6 @@ use Rattle.theory.specs.links.Limits.{capacity-small}
 use Rattle.directives.specs.Asked.{AskedSome}
 use Rattle.directives.specs.Counts.{marked_nets, SmallRooms}
 use Rattle.directives.proofs.Nets.{none-printed, sum-printed, rooms-small, cleared}
-use Rattle.std.proofs.Common.{rules}
 use Rattle.directives.proofs.ldof_of.Goals as goal
 use Rattle.directives.proofs.ldof_of.Goals.{After-clear_part, After-count_nets, Start}
 

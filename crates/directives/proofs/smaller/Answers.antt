@@ -1,7 +1,6 @@
 -- `smaller` meets its contract.
 -- Assumes nothing.
 use native.Mathlib.Omega.{arith}
-use Rattle.std.proofs.Common.{rules}
 use Rattle.directives.proofs.smaller.Goals as goal
 
 pub returns-then-a-b : goal.returns-then-a-b

@@ -2,14 +2,12 @@
 -- Assumes nothing.
 use mathlib.Core.List.{List}
 use mathlib.Core.Path.{◌≡◌, ap}
-use Prim.Native.Nat.{ℕ, suc, ◌+◌, ◌-◌, ◌*◌, ◌≤◌, ◌<◌}
+use Prim.Native.Nat.{ℕ, suc, ◌+◌}
 use native.Mathlib.Omega.{arith}
 use Rattle.layout.specs.declared.Shape.{Shape}
-use Rattle.model.specs.Limits.{most_nets}
 use Rattle.model.specs.Lists.{up_from, sum}
 use Rattle.theory.specs.congestion.Lists.{sum-snoc}
 use Rattle.directives.specs.Counts.{excess_in}
-use Rattle.std.proofs.Common.{rules}
 use Rattle.directives.proofs.sum_excess.Goals as goal
 
 -- one edge more

@@ -1,13 +1,9 @@
 -- `sum_excess` meets its contract. The loop's invariant: the excess of the first e edges is summed.
 -- Assumes nothing.
-use mathlib.Core.List.{List}
-use mathlib.Core.Path.{◌≡◌, ap}
-use Prim.Native.Nat.{ℕ, suc, ◌+◌, ◌-◌, ◌*◌, ◌≤◌, ◌<◌}
-use native.Mathlib.Omega.{arith}
-use Rattle.layout.specs.declared.Shape.{Shape}
+use mathlib.Core.Path.{◌≡◌}
+use Prim.Native.Nat.{◌-◌, ◌*◌, ◌≤◌}
 use Rattle.model.specs.Limits.{most_nets}
 use Rattle.model.specs.Lists.{up_from, sum}
-use Rattle.theory.specs.congestion.Lists.{sum-snoc}
 use Rattle.directives.specs.Counts.{excess_in}
 use Rattle.directives.proofs.sum_excess.Given as goal
 

@@ -1,7 +1,6 @@
 -- `end_of` meets its contract: byte 10 behind the last letter, and a comma behind each other.
 -- Assumes nothing.
 use Rattle.dirs.proofs.Going.{ender-comma}
-use Rattle.std.proofs.Common.{rules}
 use Rattle.dirs.proofs.end_of.Goals as goal
 
 pub returns : goal.returns

@@ -4,9 +4,8 @@ use mathlib.Core.Path.{sym, ◌∙◌}
 use Prim.Native.Nat.{◌+◌, ◌≤◌}
 use native.Mathlib.Omega.{arith}
 use lib.ListN.{length}
-use borrow.Author.Tests.{leb-true, eq-eqb, ne_eqb, not-true, not-false}
+use borrow.Author.Tests.{leb-true, eq-eqb, ne_eqb}
 use Rattle.dirs.proofs.Going.{letter-out}
-use Rattle.std.proofs.Common.{rules}
 use Rattle.dirs.proofs.letter_at.Goals as goal
 use Rattle.dirs.proofs.letter_at.Goals.{Else-not-room}
 

@@ -6,7 +6,6 @@ use native.Mathlib.Omega.{arith}
 use Rattle.lines.specs.Keyed.{ender}
 use Rattle.dirs.specs.Letters.{letter_at}
 use Rattle.dirs.proofs.Going.{ender-some, Going, going_start, bit-few, going-bad, going_more, going_done}
-use Rattle.std.proofs.Common.{rules}
 use Rattle.dirs.proofs.letters.Goals as goal
 use Rattle.dirs.proofs.letters.Goals.{After-letter_at-way}
 

@@ -1,11 +1,7 @@
 -- `letters` meets its contract. The loop's invariant: the letters before i are the digits of the mask, and with those that are left they are all k.
 -- Assumes nothing.
-use mathlib.Core.Path.{◌≡◌, sym, ap, ◌∙◌}
-use Prim.Native.Nat.{◌+◌, ◌-◌, ◌*◌, ◌≤◌, ◌<◌}
-use native.Mathlib.Omega.{arith}
-use Rattle.lines.specs.Keyed.{ender}
-use Rattle.dirs.specs.Letters.{letter_at}
-use Rattle.dirs.proofs.Going.{ender-some, Going, going_start, bit-few, going-bad, going_more, going_done}
+use Prim.Native.Nat.{◌-◌}
+use Rattle.dirs.proofs.Going.{Going}
 use Rattle.dirs.proofs.letters.Given as goal
 
 abbrev pub invariant-loop-i : goal.invariant-loop-i

@@ -14,7 +14,6 @@ use Rattle.dirs.specs.declared.Ways.{Ways}
 use Rattle.dirs.specs.declared.Ways.TheVariants.{Mask, Malformed}
 use Rattle.dirs.proofs.Keys.{key, dirs-there, dirs-none}
 use Rattle.dirs.proofs.Lines.{letters_told}
-use Rattle.std.proofs.Common.{rules}
 use Rattle.dirs.proofs.read_dirs.Goals as goal
 use Rattle.dirs.proofs.read_dirs.Goals.{After-letters, Else-not-o}
 

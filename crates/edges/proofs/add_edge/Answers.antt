@@ -18,7 +18,6 @@ use Rattle.ways.specs.Entry.{start_of, placed, row_of}
 use Rattle.ways.specs.declared.Ends.TheVariants.{New}
 use Rattle.edges.specs.Steps.{kept-tiles, kept-links}
 use Rattle.edges.proofs.Turns.{here-inside, there-inside, edge-inside, add_twice, new-few, add-joined, add-closed, steps-long}
-use Rattle.std.proofs.Common.{rules}
 use Rattle.edges.proofs.add_edge.Goals as goal
 use Rattle.edges.proofs.add_edge.Goals.{After-put_demand, After-put_marks, After-way_on-out, In-New}
 

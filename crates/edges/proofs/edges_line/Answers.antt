@@ -1,7 +1,6 @@
 -- `edges_line` meets its contract: the tests through 8, and then the last.
 -- Assumes nothing.
 use Rattle.edges.proofs.Law.{line_refused, line-served, line-unserved}
-use Rattle.std.proofs.Common.{rules}
 use Rattle.edges.proofs.edges_line.Goals as goal
 use Rattle.edges.proofs.edges_line.Goals.{After-joined_line}
 

@@ -2,16 +2,13 @@
 -- Assumes nothing.
 use mathlib.Core.Bool.{true, false}
 use mathlib.Core.Path.{◌≡◌, refl, ◌∙◌}
-use Prim.Native.Nat.{◌-◌}
 use native.Mathlib.Omega.{arith}
-use lib.ListN.{length}
 use borrow.Author.Tests.{not-true, not-false}
 use Rattle.text.specs.declared.Entry.TheVariants.{More}
 use Rattle.text.specs.Entries.{edge_entry_at}
 use Rattle.text.specs.Items.{entry-is}
 use Rattle.edges.specs.Entries.{entry-fits, item-fits, place-more}
-use Rattle.edges.proofs.Loop.{Passed, passed_start, passed-ready, passed-bad, passed-more, passed-last}
-use Rattle.std.proofs.Common.{rules}
+use Rattle.edges.proofs.Loop.{passed_start, passed-ready, passed-bad, passed-more, passed-last}
 use Rattle.edges.proofs.entries.Goals as goal
 use Rattle.edges.proofs.entries.Goals.{Else-e}
 

@@ -2,7 +2,6 @@
 -- Assumes nothing.
 use mathlib.Core.Path.{sym, ap}
 use Rattle.edges.specs.Reading.{goes_on}
-use Rattle.std.proofs.Common.{rules}
 use Rattle.edges.proofs.goes_on.Goals as goal
 
 pub returns-in-Fine : goal.returns-in-Fine

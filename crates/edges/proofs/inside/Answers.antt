@@ -2,7 +2,6 @@
 -- Assumes nothing.
 use native.Mathlib.Omega.{arith}
 use Rattle.edges.proofs.Grid.{out-x, out-y, in-east, in-north}
-use Rattle.std.proofs.Common.{rules}
 use Rattle.edges.proofs.inside.Goals as goal
 
 pub returns-then-g-x : goal.returns-then-g-x

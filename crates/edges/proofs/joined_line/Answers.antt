@@ -3,7 +3,6 @@
 use mathlib.Core.Path.{refl}
 use borrow.Author.Tests.{not-true, not-false}
 use Rattle.edges.proofs.Law.{read-other, read-there}
-use Rattle.std.proofs.Common.{rules}
 use Rattle.edges.proofs.joined_line.Goals as goal
 
 pub open_line-o-requires : goal.open_line-o-requires

@@ -2,7 +2,6 @@
 -- Assumes nothing.
 use mathlib.Core.Path.{refl}
 use Rattle.edges.proofs.Law.{list-short, list-empty, list_full}
-use Rattle.std.proofs.Common.{rules}
 use Rattle.edges.proofs.list.Goals as goal
 
 pub returns-then-s-at : goal.returns-then-s-at

@@ -2,14 +2,11 @@
 -- Assumes nothing.
 use mathlib.Core.Bool.{false}
 use mathlib.Core.Path.{◌≡◌, refl, ◌∙◌}
-use Prim.Native.Nat.{◌-◌}
 use native.Mathlib.Omega.{arith}
-use lib.ListN.{length}
 use borrow.Author.Tests.{not-true, not-false}
 use Rattle.text.specs.Entries.{edge_entry_at}
 use Rattle.text.specs.Items.{entry_of, entry-is}
-use Rattle.edges.proofs.Again.{Left, left-start, left-bad, left-place, left_other, left-last, left-more}
-use Rattle.std.proofs.Common.{rules}
+use Rattle.edges.proofs.Again.{left-start, left-bad, left-place, left_other, left-last, left-more}
 use Rattle.edges.proofs.one_way.Goals as goal
 use Rattle.edges.proofs.one_way.Goals.{After-item_of-e}
 

@@ -4,7 +4,6 @@ use mathlib.Core.Path.{ap}
 use Prim.Native.Nat.{ℕ, ◌+◌}
 use native.Mathlib.Omega.{arith}
 use lib.ListN.{get_or, set}
-use Rattle.std.proofs.Common.{rules}
 use Rattle.edges.proofs.put_demand.Goals as goal
 
 pub overflow_add-w : goal.overflow_add-w

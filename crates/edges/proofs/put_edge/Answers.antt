@@ -2,11 +2,9 @@
 -- Assumes nothing.
 use mathlib.Core.Bool.{true}
 use mathlib.Core.Path.{◌≡◌, refl, sym, ◌∙◌}
-use borrow.Author.Tests.{not-true, not-false}
 use Rattle.model.specs.Read.{edge_inside}
 use Rattle.scan.specs.Pins.{triple}
 use Rattle.edges.proofs.Turns.{all-out, after_stop, still-going}
-use Rattle.std.proofs.Common.{rules}
 use Rattle.edges.proofs.put_edge.Goals as goal
 use Rattle.edges.proofs.put_edge.Goals.{Else-not-inside}
 

@@ -9,7 +9,6 @@ use Rattle.layout.specs.Areas.{tiles_at, tiles_of}
 use Rattle.layout.specs.Parts.{part-long}
 use Rattle.ways.specs.Ends.{ends_of, ends_after, ends-long}
 use Rattle.layout.specs.Lent.{lent-part, put-part, put-outside}
-use Rattle.std.proofs.Common.{rules}
 use Rattle.edges.proofs.put_marks.Goals as goal
 
 pub returns : goal.returns

@@ -1,7 +1,6 @@
 -- `reach` meets its contract.
 -- Assumes nothing.
 use Rattle.edges.proofs.Loop.{reach-apart, reach-line}
-use Rattle.std.proofs.Common.{rules}
 use Rattle.edges.proofs.reach.Goals as goal
 
 pub returns-then-v-ne1 : goal.returns-then-v-ne1

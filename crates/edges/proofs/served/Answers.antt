@@ -3,9 +3,7 @@
 use mathlib.Core.Bool.{false}
 use mathlib.Core.Path.{◌≡◌, sym, ◌∙◌}
 use native.Mathlib.Omega.{arith}
-use borrow.Author.Tests.{not-true, not-false}
 use Rattle.edges.proofs.Again.{some_layer, north-runs, served-none, served-way, served-both}
-use Rattle.std.proofs.Common.{rules}
 use Rattle.edges.proofs.served.Goals as goal
 
 pub returns-then-e-eq0 : goal.returns-then-e-eq0

@@ -2,7 +2,6 @@
 -- Assumes nothing.
 use mathlib.Core.Path.{◌∙◌}
 use Rattle.edges.proofs.Loop.{verdict-is}
-use Rattle.std.proofs.Common.{rules}
 use Rattle.edges.proofs.verdict.Goals as goal
 
 pub returns-in-Range : goal.returns-in-Range

@@ -2,7 +2,6 @@
 -- Assumes nothing.
 use mathlib.Core.Path.{refl}
 use Rattle.engine.proofs.Branches.{there, not_there}
-use Rattle.std.proofs.Common.{rules}
 use Rattle.engine.proofs.branch_mask.Goals as goal
 
 pub returns-then-c-k : goal.returns-then-c-k

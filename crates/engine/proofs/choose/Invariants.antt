@@ -1,14 +1,12 @@
 -- `choose` meets its contract. The loop's invariant: over the list v before the root's branches were chosen, the branches of the tiles before tile i
 -- have their layers.
 -- Assumes nothing.
-use mathlib.Core.Path.{◌≡◌, refl, ◌∙◌}
+use mathlib.Core.Path.{◌≡◌}
 use mathlib.Core.List.{List}
 use Prim.Native.Nat.{ℕ, ◌-◌, ◌≤◌, ◌<◌}
-use native.Mathlib.Omega.{arith}
 use lib.ListN.{length}
 use Rattle.costs.specs.Rows.{illegal_cost, Shape, RowsFrom}
 use Rattle.engine.specs.Layers.{ChosenUpTo}
-use Rattle.engine.proofs.Layers.{root-ready, chosen-start, chosen-step, tile-ready, chosen-all}
 use Rattle.engine.proofs.choose.Given as goal
 
 abbrev pub invariant-loop-i : goal.invariant-loop-i

@@ -7,7 +7,6 @@ use Rattle.costs.specs.Rows.{row_at, first_in, branches_in, pins_in}
 use Rattle.engine.specs.Layers.{layer_in, TileReady}
 use Rattle.engine.proofs.Layers.{none_written, tile-attained, tile-chosen, base-is, goal-is}
 use native.Mathlib.Omega.{arith}
-use Rattle.std.proofs.Common.{rules}
 use Rattle.engine.proofs.choose_below.Goals as goal
 use Rattle.engine.proofs.choose_below.Goals.{After-with_layer-base, Start}
 

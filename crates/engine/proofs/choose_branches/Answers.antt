@@ -10,7 +10,6 @@ use Rattle.theory.specs.engine.Loops.{comb}
 use Rattle.sets.specs.Mask.{span_of, Charted}
 use Rattle.engine.specs.Layers.{Attained, FirstCombination, FirstWritten}
 use Rattle.engine.proofs.Layers.{attained-at, layers-found, written_at}
-use Rattle.std.proofs.Common.{rules}
 use Rattle.engine.proofs.choose_branches.Goals as goal
 use Rattle.engine.proofs.choose_branches.Goals.{Start}
 

@@ -2,7 +2,6 @@
 -- Assumes nothing.
 use Rattle.engine.proofs.Layers.{root-attained, root-chosen}
 use native.Mathlib.Omega.{arith}
-use Rattle.std.proofs.Common.{rules}
 use Rattle.engine.proofs.choose_root.Goals as goal
 
 pub choose_branches-requires : goal.choose_branches-requires

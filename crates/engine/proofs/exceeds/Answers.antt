@@ -5,7 +5,6 @@ use Prim.Native.Nat.{ℕ, ◌-◌}
 use lib.Dec.{ltb}
 use Rattle.sets.specs.Mask.{span_of}
 use Rattle.engine.proofs.Branches.{exceeds-yes, exceeds-test}
-use Rattle.std.proofs.Common.{rules}
 use Rattle.engine.proofs.exceeds.Goals as goal
 
 pub returns-then-goal-cost : goal.returns-then-goal-cost

@@ -5,12 +5,11 @@ use mathlib.Core.Bool.{true, false}
 use mathlib.Core.Logic.{◌≢◌}
 use Prim.Native.Nat.{ℕ, ◌+◌, ◌-◌, ◌≤◌}
 use native.Mathlib.Omega.{arith}
-use Rattle.theory.specs.engine.Loops.{HasTurn, Passed, passed_start, passed-turn, passed-inner, passed-middle, passed-all}
+use Rattle.theory.specs.engine.Loops.{HasTurn, passed_start, passed-turn, passed-inner, passed-middle, passed-all}
 use Rattle.sets.specs.Mask.{span_of}
 use Rattle.costs.specs.Rows.{combination_cost}
 use Rattle.engine.proofs.Branches.{is-over, is_within, skip_first, skip-second, over_first, over-second, tested}
 use Rattle.engine.proofs.Layers.{attained-of, first-combination}
-use Rattle.std.proofs.Common.{rules}
 use Rattle.engine.proofs.first_combination.Goals as goal
 use Rattle.engine.proofs.first_combination.Goals.{After-reaches, At-loop-b, At-loop-c, At-search, In-loop-b, In-loop-c, In-search, Start}
 

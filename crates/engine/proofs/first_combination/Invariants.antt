@@ -1,15 +1,9 @@
 -- `first_combination` meets its contract. Each loop's invariant: no combination that is passed costs the goal.
 -- Assumes nothing.
-use mathlib.Core.Path.{◌≡◌}
-use mathlib.Core.Bool.{true, false}
 use mathlib.Core.Logic.{◌≢◌}
-use Prim.Native.Nat.{ℕ, ◌+◌, ◌-◌, ◌≤◌}
-use native.Mathlib.Omega.{arith}
-use Rattle.theory.specs.engine.Loops.{HasTurn, Passed, passed_start, passed-turn, passed-inner, passed-middle, passed-all}
-use Rattle.sets.specs.Mask.{span_of}
+use Prim.Native.Nat.{◌+◌, ◌-◌}
+use Rattle.theory.specs.engine.Loops.{Passed}
 use Rattle.costs.specs.Rows.{combination_cost}
-use Rattle.engine.proofs.Branches.{is-over, is_within, skip_first, skip-second, over_first, over-second, tested}
-use Rattle.engine.proofs.Layers.{attained-of, first-combination}
 use Rattle.engine.proofs.first_combination.Given as goal
 
 abbrev pub invariant-loop-c : goal.invariant-loop-c

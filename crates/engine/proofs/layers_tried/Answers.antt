@@ -2,7 +2,6 @@
 -- Assumes nothing.
 use Rattle.costs.specs.Kept.{tried-all, tried-one}
 use native.Mathlib.Omega.{arith}
-use Rattle.std.proofs.Common.{rules}
 use Rattle.engine.proofs.layers_tried.Goals as goal
 
 pub returns-then-j-k : goal.returns-then-j-k

@@ -2,7 +2,6 @@
 -- Assumes nothing.
 use Rattle.engine.proofs.Best.{net-shape, rows_self, holds_kept, net-small, net-placed}
 use Rattle.costs.specs.Kept.{shape-kept}
-use Rattle.std.proofs.Common.{rules}
 use Rattle.engine.proofs.place_layers.Goals as goal
 
 pub costs-requires : goal.costs-requires

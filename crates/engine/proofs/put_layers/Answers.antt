@@ -4,7 +4,6 @@ use Prim.Native.Nat.{◌+◌}
 use lib.ListN.{set, length-set}
 use Rattle.engine.proofs.Layers.{put-none, put_one, put_two, put_three}
 use native.Mathlib.Omega.{arith}
-use Rattle.std.proofs.Common.{rules}
 use Rattle.engine.proofs.put_layers.Goals as goal
 
 pub returns-then-k-eq0 : goal.returns-then-k-eq0

@@ -5,7 +5,6 @@ use Prim.Native.Nat.{ℕ, ◌-◌}
 use lib.Dec.{eqb}
 use Rattle.sets.specs.Mask.{span_of}
 use Rattle.engine.proofs.Branches.{reaches-no, reaches-test}
-use Rattle.std.proofs.Common.{rules}
 use Rattle.engine.proofs.reaches.Goals as goal
 
 pub returns-then-goal-cost : goal.returns-then-goal-cost

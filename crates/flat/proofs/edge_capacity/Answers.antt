@@ -6,7 +6,6 @@ use native.Mathlib.Omega.{arith}
 use lib.ListN.{get_or}
 use Rattle.model.specs.Limits.{most_capacity}
 use Rattle.flat.specs.FlatPlan.{sum_at}
-use Rattle.std.proofs.Common.{rules}
 use Rattle.flat.proofs.edge_capacity.Goals as goal
 use Rattle.flat.proofs.edge_capacity.Goals.{Start}
 

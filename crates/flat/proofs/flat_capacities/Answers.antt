@@ -1,13 +1,12 @@
 -- `flat_capacities` meets its contract. The loop's invariant: c(e) stands in its place for the first e edges, and the rest is as it was.
 -- Assumes nothing.
 use mathlib.Core.Path.{◌∙◌}
-use Prim.Native.Nat.{◌-◌, ◌≤◌}
+use Prim.Native.Nat.{◌≤◌}
 use native.Mathlib.Omega.{arith}
 use Rattle.layout.specs.Areas.{loads_at}
 use Rattle.flat.specs.FlatPlan.{capacity_sum}
-use Rattle.layout.specs.Fill.{Filled, filled_none, filled_next}
+use Rattle.layout.specs.Fill.{filled_none, filled_next}
 use Rattle.flat.proofs.Turns.{small-kept, sum_kept, summed}
-use Rattle.std.proofs.Common.{rules}
 use Rattle.flat.proofs.flat_capacities.Goals as goal
 use Rattle.flat.proofs.flat_capacities.Goals.{At-loop-e}
 

@@ -2,7 +2,6 @@
 -- Assumes nothing.
 use mathlib.Core.Path.{sym}
 use borrow.Author.Tests.{lt-ltb, le-ltb}
-use Rattle.std.proofs.Common.{rules}
 use Rattle.flat.proofs.limit_at.Goals as goal
 
 pub returns-then-edge-m : goal.returns-then-edge-m

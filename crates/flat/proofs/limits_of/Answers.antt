@@ -1,12 +1,11 @@
 -- `limits_of` meets its contract: one limit for all edges, or one for each direction.
 -- Assumes nothing.
-use mathlib.Core.Path.{◌≡◌, refl, sym, ap, ap₂, ◌∙◌}
+use mathlib.Core.Path.{sym, ap, ap₂, ◌∙◌}
 use Prim.Native.Nat.{ℕ}
 use native.Mathlib.Omega.{arith}
 use Rattle.layout.specs.declared.Dirs.{Dirs}
 use Rattle.flat.specs.Limited.{limits_by}
 use Rattle.flat.specs.declared.Limits.{Limits}
-use Rattle.std.proofs.Common.{rules}
 use Rattle.flat.proofs.limits_of.Goals as goal
 
 pub share-each-requires : goal.share-each-requires

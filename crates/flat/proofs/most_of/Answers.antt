@@ -1,12 +1,11 @@
 -- `most_of` meets its contract. The loop's invariant: what was found is the largest of the first i numbers.
 -- Assumes nothing.
 use mathlib.Core.Path.{◌≡◌, refl, ap, ◌∙◌}
-use Prim.Native.Nat.{ℕ, ◌+◌, ◌-◌, ◌≤◌}
+use Prim.Native.Nat.{ℕ, ◌+◌}
 use native.Mathlib.Omega.{arith}
 use lib.ListN.{get_or}
 use Rattle.flat.specs.FlatPlan.{most_at}
 use Rattle.flat.proofs.Turns.{most-next}
-use Rattle.std.proofs.Common.{rules}
 use Rattle.flat.proofs.most_of.Goals as goal
 
 pub loop-i-init : goal.loop-i-init

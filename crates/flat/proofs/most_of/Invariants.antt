@@ -1,11 +1,8 @@
 -- `most_of` meets its contract. The loop's invariant: what was found is the largest of the first i numbers.
 -- Assumes nothing.
-use mathlib.Core.Path.{◌≡◌, refl, ap, ◌∙◌}
-use Prim.Native.Nat.{ℕ, ◌+◌, ◌-◌, ◌≤◌}
-use native.Mathlib.Omega.{arith}
-use lib.ListN.{get_or}
+use mathlib.Core.Path.{◌≡◌}
+use Prim.Native.Nat.{◌-◌, ◌≤◌}
 use Rattle.flat.specs.FlatPlan.{most_at}
-use Rattle.flat.proofs.Turns.{most-next}
 use Rattle.flat.proofs.most_of.Given as goal
 
 abbrev pub invariant-loop-i : goal.invariant-loop-i

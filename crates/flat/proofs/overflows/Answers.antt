@@ -1,15 +1,13 @@
 -- `overflows` meets its contract. The loop's invariant: o(e) stands in the place of d(e) for the first e edges, and total and most are theirs.
 -- Assumes nothing.
 use mathlib.Core.Path.{◌≡◌, refl, sym, ◌∙◌, subst}
-use Prim.Native.Nat.{ℕ, ◌+◌, ◌-◌, ◌*◌, ◌≤◌}
+use Prim.Native.Nat.{ℕ, ◌+◌, ◌≤◌}
 use native.Mathlib.Omega.{arith}
 use lib.ListN.{get_or}
 use Rattle.model.specs.Limits.{most_nets}
-use Rattle.model.specs.Lists as lists
 use Rattle.flat.specs.FlatPlan.{over_in}
-use Rattle.layout.specs.Fill.{Filled, filled_none, filled_next}
+use Rattle.layout.specs.Fill.{filled_none, filled_next}
 use Rattle.flat.proofs.Turns.{sum-next, most-next, over-kept, over-small, overflowed}
-use Rattle.std.proofs.Common.{rules}
 use Rattle.flat.proofs.overflows.Goals as goal
 use Rattle.flat.proofs.overflows.Goals.{After-over_of-o}
 

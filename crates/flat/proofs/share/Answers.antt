@@ -4,7 +4,6 @@ use mathlib.Core.Path.{refl, sym}
 use native.Mathlib.Omega.{arith}
 use Rattle.model.specs.Overflow.{ceil_div}
 use Rattle.theory.specs.congestion.Edge.{ceil-zero}
-use Rattle.std.proofs.Common.{rules}
 use Rattle.flat.proofs.share.Goals as goal
 
 pub returns-then-layers-eq0 : goal.returns-then-layers-eq0

@@ -1,12 +1,10 @@
 -- `sum_of` meets its contract. The loop's invariant: what was summed is the sum of the first l numbers.
 -- Assumes nothing.
 use mathlib.Core.Path.{◌≡◌, refl, ap, ◌∙◌}
-use Prim.Native.Nat.{ℕ, ◌*◌, ◌-◌, ◌≤◌}
+use Prim.Native.Nat.{ℕ}
 use native.Mathlib.Omega.{arith}
-use Rattle.model.specs.Limits.{most_capacity}
 use Rattle.flat.specs.FlatPlan.{sum_at}
 use Rattle.flat.proofs.Turns.{sum_at_next}
-use Rattle.std.proofs.Common.{rules}
 use Rattle.flat.proofs.sum_of.Goals as goal
 
 pub loop-l-init : goal.loop-l-init

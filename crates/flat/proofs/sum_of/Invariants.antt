@@ -1,11 +1,9 @@
 -- `sum_of` meets its contract. The loop's invariant: what was summed is the sum of the first l numbers.
 -- Assumes nothing.
-use mathlib.Core.Path.{◌≡◌, refl, ap, ◌∙◌}
-use Prim.Native.Nat.{ℕ, ◌*◌, ◌-◌, ◌≤◌}
-use native.Mathlib.Omega.{arith}
+use mathlib.Core.Path.{◌≡◌}
+use Prim.Native.Nat.{◌*◌, ◌-◌, ◌≤◌}
 use Rattle.model.specs.Limits.{most_capacity}
 use Rattle.flat.specs.FlatPlan.{sum_at}
-use Rattle.flat.proofs.Turns.{sum_at_next}
 use Rattle.flat.proofs.sum_of.Given as goal
 
 abbrev pub invariant-loop-l : goal.invariant-loop-l

@@ -8,7 +8,6 @@ use Rattle.model.specs.Limits.{most_nets}
 use Rattle.model.specs.Overflow.{ceil_div}
 use Rattle.flat.specs.FlatPlan.{most_at}
 use Rattle.flat.specs.Limited.{most-few}
-use Rattle.std.proofs.Common.{rules}
 use Rattle.flat.proofs.way_limit.Goals as goal
 use Rattle.flat.proofs.way_limit.Goals.{After-most_of-most}
 

@@ -5,7 +5,6 @@ use borrow.Author.Tests.{le-leb, lt-leb}
 use Rattle.head.specs.Reads.{nets_in}
 use Rattle.head.proofs.Fields.{not-got, got}
 use Rattle.model.specs.Limits.{most_nets}
-use Rattle.std.proofs.Common.{rules}
 use Rattle.head.proofs.nets_line.Goals as goal
 
 pub returns-then-order-n : goal.returns-then-order-n

@@ -12,7 +12,6 @@ use Rattle.head.specs.Reads.{body_in}
 use Rattle.head.specs.Told.{weights_told}
 use Rattle.head.proofs.Cases.{weights-hold, nets-hold, beyond-holds, capacities-room}
 use native.Mathlib.Omega.{arith}
-use Rattle.std.proofs.Common.{rules}
 use Rattle.head.proofs.read_body.Goals as goal
 
 few : (g : Shape) → option_lines (dirs_of g.k g.dirs) ≤ 1

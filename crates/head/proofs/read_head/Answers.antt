@@ -9,7 +9,6 @@ use Rattle.head.specs.Reads.{head_in}
 use Rattle.head.specs.Told.{sizes_told}
 use Rattle.head.proofs.Cases.{sizes-hold}
 use native.Mathlib.Omega.{arith}
-use Rattle.std.proofs.Common.{rules}
 use Rattle.head.proofs.read_head.Goals as goal
 
 pub returns-then-s-gt-MOST_TEXT : goal.returns-then-s-gt-MOST_TEXT

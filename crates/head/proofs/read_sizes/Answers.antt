@@ -5,7 +5,6 @@ use Prim.Native.Nat.{◌+◌}
 use Rattle.head.specs.Reads.{sizes_in}
 use Rattle.head.proofs.Fields.{Got, not-got, got}
 use native.Mathlib.Omega.{arith}
-use Rattle.std.proofs.Common.{rules}
 use Rattle.head.proofs.read_sizes.Goals as goal
 use Rattle.head.proofs.read_sizes.Goals.{In-Value, In-Value-ranged}
 

@@ -10,7 +10,6 @@ use Rattle.lines.specs.Told.{field_told, field-after}
 use Rattle.head.specs.Told.{sizes_hold}
 use Rattle.head.proofs.Stacks.{stack-limits, stack-refused, stack-outside, stack-inside}
 use native.Mathlib.Omega.{arith}
-use Rattle.std.proofs.Common.{rules}
 use Rattle.head.proofs.read_stack.Goals as goal
 use Rattle.head.proofs.read_stack.Goals.{In-Value}
 

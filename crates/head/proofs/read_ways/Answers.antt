@@ -1,13 +1,11 @@
 -- `read_ways` meets its contract: what the line says, or nothing, goes into the shape (`Stacks.antt`).
 -- Assumes nothing.
-use mathlib.Core.Path.{◌≡◌, sym, ap, ◌∙◌}
+use mathlib.Core.Path.{sym, ap, ◌∙◌}
 use lib.ListN.{length}
-use Rattle.model.specs.Read.{found, dirs_line}
 use Rattle.text.specs.Refusals.{place_of, number_of, line_of}
 use Rattle.dirs.specs.Told.{dirs_told}
 use Rattle.head.proofs.Cases.{dirs-after}
 use Rattle.head.proofs.Stacks.{ways-refused, ways-found, ways-hold}
-use Rattle.std.proofs.Common.{rules}
 use Rattle.head.proofs.read_ways.Goals as goal
 
 pub read_dirs-requires : goal.read_dirs-requires

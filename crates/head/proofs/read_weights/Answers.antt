@@ -4,7 +4,6 @@ use mathlib.Core.Path.{refl, sym}
 use Rattle.head.specs.Reads.{weights_in}
 use Rattle.head.proofs.Fields.{Got, not-got, got}
 use native.Mathlib.Omega.{arith}
-use Rattle.std.proofs.Common.{rules}
 use Rattle.head.proofs.read_weights.Goals as goal
 use Rattle.head.proofs.read_weights.Goals.{In-Value, In-Value-ranged, In-Value-ranged-2}
 

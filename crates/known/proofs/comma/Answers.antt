@@ -2,7 +2,6 @@
 -- Assumes nothing.
 use native.Mathlib.Omega.{arith}
 use borrow.Author.Tests.{lt-ltb, le-ltb}
-use Rattle.std.proofs.Common.{rules}
 use Rattle.known.proofs.comma.Goals as goal
 
 pub returns-then-b-lt48 : goal.returns-then-b-lt48

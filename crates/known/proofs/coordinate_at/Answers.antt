@@ -5,7 +5,6 @@ use Prim.Native.Nat.{ℕ, ◌+◌, ◌-◌}
 use native.Mathlib.Omega.{arith}
 use Rattle.text.specs.declared.Numeral.TheVariants.{Value}
 use Rattle.known.proofs.Parts.{Coordinates, coordinates, decoded}
-use Rattle.std.proofs.Common.{rules}
 use Rattle.known.proofs.coordinate_at.Goals as goal
 use Rattle.known.proofs.coordinate_at.Goals.{Start}
 

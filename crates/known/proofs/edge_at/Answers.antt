@@ -9,7 +9,6 @@ use lib.ListN.{get_or}
 use Rattle.text.specs.Entries.{edge_entry_at}
 use Rattle.known.specs.Known.{entry_of}
 use Rattle.known.proofs.Parts.{Ended, edge-first, edge-second, edge-third}
-use Rattle.std.proofs.Common.{rules}
 use Rattle.known.proofs.edge_at.Goals as goal
 use Rattle.known.proofs.edge_at.Goals.{After-coordinate_at-y}
 

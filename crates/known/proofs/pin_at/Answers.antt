@@ -4,7 +4,6 @@ use Prim.Native.Nat.{ℕ}
 use native.Mathlib.Omega.{arith}
 use Rattle.text.specs.Entries.{pin_entry_at}
 use Rattle.known.proofs.Parts.{Layer, pin-first, pin-second, pin-third}
-use Rattle.std.proofs.Common.{rules}
 use Rattle.known.proofs.pin_at.Goals as goal
 use Rattle.known.proofs.pin_at.Goals.{After-coordinate_at-y}
 

@@ -1,7 +1,6 @@
 -- `way` meets its contract.
 -- Assumes nothing.
 use borrow.Author.Tests.{eq-eqb, ne_eqb}
-use Rattle.std.proofs.Common.{rules}
 use Rattle.known.proofs.way.Goals as goal
 
 pub returns-then-b-eq110 : goal.returns-then-b-eq110

@@ -1,12 +1,10 @@
 -- `clear` meets its contract. The loop's invariant: the first i numbers are 0, and the rest is as it was.
 -- Assumes nothing.
-use mathlib.Core.List.{◌++◌, append-nil}
+use mathlib.Core.List.{append-nil}
 use mathlib.Core.Path.{◌≡◌, refl, ◌∙◌}
-use Prim.Native.Nat.{◌-◌, ◌≤◌}
 use native.Mathlib.Omega.{arith}
-use lib.ListN.{length, drop, replicate, length-set, drop_of_length-le}
+use lib.ListN.{length, length-set, drop_of_length-le}
 use borrow.Author.Fill.{fill_more}
-use Rattle.std.proofs.Common.{rules}
 use Rattle.layout.proofs.clear.Goals as goal
 
 pub loop-i-init : goal.loop-i-init

@@ -9,7 +9,6 @@ use borrow.Rule.Slice.PartMut.{put_mid}
 use Rattle.layout.specs.Lent.{put-part, put-outside}
 use Rattle.layout.specs.Fill.{PartCleared}
 use Rattle.layout.specs.Parts.{part_at, part-long}
-use Rattle.std.proofs.Common.{rules}
 use Rattle.layout.proofs.clear_part.Goals as goal
 
 -- a part comes back as zeros

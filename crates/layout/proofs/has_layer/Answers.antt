@@ -1,12 +1,11 @@
 -- `has_layer` meets its contract: below 2 to the power k a mask of north bits is not 0, or not all ones.
 -- Assumes nothing.
-use Prim.Native.Nat.{◌+◌, ◌%◌, ◌^◌, ◌<◌, ◌≤◌}
+use Prim.Native.Nat.{◌%◌, ◌^◌, ◌<◌, ◌≤◌}
 use native.Mathlib.Nat.{mod-lt, pow-le-pow_right}
 use native.Mathlib.Omega.{arith}
 use lib.Dec.{lit<}
 use lib.Pow.{pow_pos}
 use Rattle.layout.specs.Dirs.{full_is, any-has, east-has, north-has}
-use Rattle.std.proofs.Common.{rules}
 use Rattle.layout.proofs.has_layer.Goals as goal
 
 pub overflow_shl-full : goal.overflow_shl-full

@@ -1,14 +1,13 @@
 -- `layers_in` meets its contract: those counted and those still to count are all.
 -- Assumes nothing.
-use mathlib.Core.Path.{◌≡◌, refl, sym, ap, ◌∙◌}
-use Prim.Native.Nat.{ℕ, ◌+◌, ◌-◌, ◌≤◌, ◌<◌}
+use mathlib.Core.Path.{◌≡◌, ap, ◌∙◌}
+use Prim.Native.Nat.{ℕ, ◌+◌, ◌<◌}
 use native.Mathlib.Nat.{sub-zero}
 use native.Mathlib.Omega.{arith}
 use lib.ListN.{length}
 use Rattle.model.specs.Job.{runs}
 use Rattle.model.specs.Lists.{up_from, bit, keep}
 use Rattle.layout.specs.Dirs.{dirs_of, count-more, count_none}
-use Rattle.std.proofs.Common.{rules}
 use Rattle.layout.proofs.layers_in.Goals as goal
 
 pub loop-l-init : goal.loop-l-init

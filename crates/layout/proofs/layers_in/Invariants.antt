@@ -1,13 +1,11 @@
 -- `layers_in` meets its contract: those counted and those still to count are all.
 -- Assumes nothing.
-use mathlib.Core.Path.{◌≡◌, refl, sym, ap, ◌∙◌}
-use Prim.Native.Nat.{ℕ, ◌+◌, ◌-◌, ◌≤◌, ◌<◌}
-use native.Mathlib.Nat.{sub-zero}
-use native.Mathlib.Omega.{arith}
+use mathlib.Core.Path.{◌≡◌}
+use Prim.Native.Nat.{◌+◌, ◌-◌, ◌≤◌}
 use lib.ListN.{length}
 use Rattle.model.specs.Job.{runs}
-use Rattle.model.specs.Lists.{up_from, bit, keep}
-use Rattle.layout.specs.Dirs.{dirs_of, count-more, count_none}
+use Rattle.model.specs.Lists.{up_from, keep}
+use Rattle.layout.specs.Dirs.{dirs_of}
 use Rattle.layout.proofs.layers_in.Given as goal
 
 abbrev pub invariant-loop-l : goal.invariant-loop-l

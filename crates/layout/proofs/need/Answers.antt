@@ -5,7 +5,6 @@ use Prim.Native.Nat.{ℕ, ◌*◌}
 use native.Mathlib.Nat.{mul_assoc}
 use native.Mathlib.Omega.{arith}
 use Rattle.model.specs.Grid.{grid_edges}
-use Rattle.std.proofs.Common.{rules}
 use Rattle.layout.proofs.need.Goals as goal
 
 pub returns : goal.returns

@@ -1,10 +1,7 @@
 -- Both halves are written where they belong, one after the other, the upper one beside the lowest wanted layer.
 -- Assumes nothing.
-use mathlib.Core.Path.{◌≡◌, ap}
-use Prim.Native.Nat.{ℕ, ◌+◌, ◌*◌, ◌/◌, ◌%◌, ◌<◌}
 use native.Mathlib.Omega.{arith}
-use lib.ListN.{set, length-set}
-use Rattle.std.proofs.Common.{rules}
+use lib.ListN.{length-set}
 use Rattle.layout.proofs.put_score.Goals as goal
 
 pub overflow_cast-high : goal.overflow_cast-high

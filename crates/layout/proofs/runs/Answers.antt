@@ -1,7 +1,6 @@
 -- `runs` meets its contract: the bit of the layer, by division.
 -- Assumes nothing.
 use Rattle.layout.specs.Dirs.{any_runs, given-runs}
-use Rattle.std.proofs.Common.{rules}
 use Rattle.layout.proofs.runs.Goals as goal
 
 pub returns-in-Any : goal.returns-in-Any

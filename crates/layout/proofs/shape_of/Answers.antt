@@ -3,7 +3,6 @@
 use native.Mathlib.Omega.{arith}
 use mathlib.Core.Path.{refl}
 use Rattle.layout.proofs.Sizes.{product, less_one, one_less, shaped}
-use Rattle.std.proofs.Common.{rules}
 use Rattle.layout.proofs.shape_of.Goals as goal
 
 pub overflow_mul-east : goal.overflow_mul-east

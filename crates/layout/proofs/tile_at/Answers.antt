@@ -3,7 +3,6 @@
 use mathlib.Core.Path.{refl}
 use native.Mathlib.Omega.{arith}
 use Rattle.layout.specs.Shapes.{tile-below}
-use Rattle.std.proofs.Common.{rules}
 use Rattle.layout.proofs.tile_at.Goals as goal
 
 pub overflow_mul-result : goal.overflow_mul-result

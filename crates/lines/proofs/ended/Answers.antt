@@ -2,7 +2,6 @@
 -- Assumes nothing.
 use mathlib.Core.Path.{sym, ◌∙◌}
 use Rattle.lines.proofs.Ends.{ended-bad, ended-out, ended-good, ended-other}
-use Rattle.std.proofs.Common.{rules}
 use Rattle.lines.proofs.ended.Goals as goal
 
 pub returns-then-s-next : goal.returns-then-s-next

@@ -3,7 +3,6 @@
 use mathlib.Core.Path.{sym, ap, ◌∙◌}
 use Rattle.lines.specs.Reads.{in_range}
 use Rattle.lines.proofs.Ranges.{below, above, between}
-use Rattle.std.proofs.Common.{rules}
 use Rattle.lines.proofs.in_range.Goals as goal
 
 pub returns-then-v-low : goal.returns-then-v-low

@@ -7,7 +7,6 @@ use Rattle.lines.specs.Digits.{ended-within}
 use Rattle.lines.specs.declared.Opened.{Opened}
 use Rattle.lines.proofs.Keys.{number-none, number-key}
 use Rattle.lines.proofs.Places.{numeral_told}
-use Rattle.std.proofs.Common.{rules}
 use Rattle.lines.proofs.number_line.Goals as goal
 use Rattle.lines.proofs.number_line.Goals.{After-ended}
 

@@ -6,7 +6,6 @@ use lib.ListN.{length}
 use Rattle.text.specs.Refusals.{place_of}
 use Rattle.lines.specs.Told.{field_told}
 use Rattle.lines.proofs.Ranges.{range-told, range-within}
-use Rattle.std.proofs.Common.{rules}
 use Rattle.lines.proofs.ranged.Goals as goal
 
 pub returns : goal.returns

@@ -1,7 +1,6 @@
 -- `bit` meets its contract.
 -- Assumes nothing.
 use Rattle.marks.specs.Words.{bit_is}
-use Rattle.std.proofs.Common.{rules}
 use Rattle.marks.proofs.bit.Goals as goal
 
 pub returns : goal.returns

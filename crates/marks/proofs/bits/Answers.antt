@@ -3,7 +3,6 @@
 use native.Mathlib.Omega.{arith}
 use borrow.Author.Tests.{eq-eqb, ne_eqb}
 use Rattle.marks.specs.Words.{bits_in}
-use Rattle.std.proofs.Common.{rules}
 use Rattle.marks.proofs.bits.Goals as goal
 
 pub returns-then-word-stamp : goal.returns-then-word-stamp

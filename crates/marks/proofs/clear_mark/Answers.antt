@@ -5,7 +5,6 @@ use Prim.Native.Nat.{ℕ, ◌-◌}
 use native.Mathlib.Omega.{arith}
 use lib.ListN.{get_or, set}
 use Rattle.marks.specs.Marks.{unmark-least}
-use Rattle.std.proofs.Common.{rules}
 use Rattle.marks.proofs.clear_mark.Goals as goal
 
 pub overflow_sub-a : goal.overflow_sub-a

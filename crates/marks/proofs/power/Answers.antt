@@ -8,7 +8,6 @@ use native.Mathlib.Omega.{arith}
 use lib.Dec.{lit<}
 use lib.Pow.{shl_exact}
 use Rattle.marks.specs.Words.{stamp_unit}
-use Rattle.std.proofs.Common.{rules}
 use Rattle.marks.proofs.power.Goals as goal
 
 one_shl : (l : ℕ) → l < 32 → (1 * 2 ^ l) % 2 ^ 32 ≡ 2 ^ l

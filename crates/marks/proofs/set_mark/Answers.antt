@@ -1,7 +1,6 @@
 -- `set_mark` meets its contract.
 -- Assumes nothing.
 use Rattle.marks.proofs.Puts.{put-twice, put-fresh, put-known}
-use Rattle.std.proofs.Common.{rules}
 use Rattle.marks.proofs.set_mark.Goals as goal
 
 pub returns-then-bit : goal.returns-then-bit

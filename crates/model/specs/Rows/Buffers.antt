@@ -1,7 +1,7 @@
 -- Rows for what the calls return and leave in their buffers, for the print, and for the print program.
 -- Assumes nothing.
 use Rattle.std.specs.Prelude.{List, [], ◌∷◌, ◌++◌, ℕ, take, set, replicate}
-use Rattle.std.proofs.Math.Option.{none, some}
+use Rattle.std.proofs.Math.Option.{some}
 use Prim.Native.String.{String, ◌++◌ as ◌then◌}
 use Rattle.model.specs.Calls.{Returned, Buffers, Planned, plan_call, Printed, print_call, refusal}
 use Rattle.model.specs.Print.{print_line, print_nets}

@@ -1,6 +1,6 @@
 -- Rows for layer directives. Document 02, S-5.
 -- Assumes nothing.
-use Rattle.std.specs.Prelude.{Bool, true, false, List, [], ◌∷◌, ◌++◌, map, ℕ, ◌+◌, ◌-◌, take, drop, set, get_or}
+use Rattle.std.specs.Prelude.{Bool, true, List, [], ◌∷◌, ◌++◌, map, ℕ, ◌+◌, ◌-◌, take, drop, set, get_or}
 use Rattle.std.proofs.Math.Option.{Option, none, some}
 use Prim.Native.String.{String, ◌++◌ as ◌then◌}
 use Rattle.model.specs.Calls.{Outcome, accepted, refusal}

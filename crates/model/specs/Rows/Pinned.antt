@@ -1,7 +1,7 @@
 -- What the rows over the records of demand 3 and over whole calls share: returned numbers and buffers, and the layerings of two nets.
 -- Assumes nothing.
 use Rattle.std.specs.Prelude.{◌≡◌, refl, List, [], ◌∷◌, ◌++◌, ℕ, length, drop, replicate}
-use Rattle.std.proofs.Common.{sym, ap₂, ◌∙◌, subst}
+use Rattle.std.proofs.Common.{ap₂, ◌∙◌, subst}
 use Rattle.model.specs.Calls.{Returned, Buffers, stretches, Planned, Printed}
 use Rattle.model.specs.Demand3.{choice_at}
 use Rattle.model.specs.Job.{Job}

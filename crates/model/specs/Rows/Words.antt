@@ -1,8 +1,8 @@
 -- Rows for the words of demand 3: choices and layerings, turns, the plan in the answer list, the vias of a choice.
 -- Assumes nothing.
 use Rattle.std.specs.Prelude.{List, [], ◌∷◌, ℕ, ◌≤◌}
-use Rattle.model.specs.Demand3.{turns, net_at, choice_at, choice_vias, order_in, plan_in}
-use Rattle.model.specs.Job.{Job, layers_of}
+use Rattle.model.specs.Demand3.{net_at, choice_at, choice_vias, order_in, plan_in}
+use Rattle.model.specs.Job.{layers_of}
 use Rattle.model.specs.Layering.{IsChoice, IsLayering}
 use Rattle.model.specs.Rows.Row.{Row, ◌gives◌}
 use Rattle.model.specs.Rows.Terms.{mixed, entry}

@@ -1,7 +1,6 @@
 -- `add_mark` meets its contract.
 -- Assumes nothing.
 use Rattle.netread.proofs.Adds.{bit_added}
-use Rattle.std.proofs.Common.{rules}
 use Rattle.netread.proofs.add_mark.Goals as goal
 
 pub returns : goal.returns

@@ -9,7 +9,6 @@ use Rattle.marks.specs.Marks.{marks_after}
 use Rattle.ways.specs.Ends.{after-long, after-fits}
 use Rattle.netread.specs.Edges.{both_long}
 use Rattle.netread.proofs.Adds.{way-bits}
-use Rattle.std.proofs.Common.{rules}
 use Rattle.netread.proofs.mark_both.Goals as goal
 use Rattle.netread.proofs.mark_both.Goals.{After-add_mark, After-slice_known-3-1}
 

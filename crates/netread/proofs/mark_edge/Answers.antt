@@ -2,7 +2,6 @@
 -- Assumes nothing.
 use native.Mathlib.Omega.{arith}
 use Rattle.netread.proofs.Marked.{at, there-in, edge-small, edge-marked}
-use Rattle.std.proofs.Common.{rules}
 use Rattle.netread.proofs.mark_edge.Goals as goal
 
 pub tile_at-here-requires : goal.tile_at-here-requires

@@ -2,7 +2,6 @@
 -- Assumes nothing.
 use Rattle.net.specs.Left.{edges-place, edges_none}
 use Rattle.netread.specs.Hand.{edges-start}
-use Rattle.std.proofs.Common.{rules}
 use Rattle.netread.proofs.mark_edges.Goals as goal
 
 pub bounds-s-at : goal.bounds-s-at

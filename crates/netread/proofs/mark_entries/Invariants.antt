@@ -1,11 +1,8 @@
 -- `mark_entries` meets its contract. The loop's invariant: some edges of the line are marked and listed, and the others stand at i.
 -- Assumes nothing.
-use mathlib.Core.Path.{◌∙◌}
 use Prim.Native.Nat.{◌-◌}
-use native.Mathlib.Omega.{arith}
 use lib.ListN.{length}
 use Rattle.netread.specs.Edges.{EdgesGoing}
-use Rattle.netread.proofs.EdgeTurns.{going_start, next-short, next-asked, going-last, going_more, next_place}
 use Rattle.netread.proofs.mark_entries.Given as goal
 
 abbrev pub invariant-loop-g : goal.invariant-loop-g

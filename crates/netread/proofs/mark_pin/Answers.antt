@@ -3,7 +3,6 @@
 use mathlib.Core.Path.{ap, ◌∙◌}
 use Prim.Native.Nat.{ℕ, ◌-◌, min}
 use Rattle.marks.specs.Marks.{marks_after}
-use Rattle.std.proofs.Common.{rules}
 use Rattle.netread.proofs.mark_pin.Goals as goal
 use Rattle.netread.proofs.mark_pin.Goals.{After-set_mark}
 

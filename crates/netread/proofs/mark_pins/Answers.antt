@@ -5,9 +5,7 @@ use Prim.Native.Nat.{◌-◌, ◌*◌, ◌+◌}
 use native.Mathlib.Omega.{arith}
 use lib.ListN.{length}
 use Rattle.ways.specs.Ends.{after-long}
-use Rattle.netread.specs.Pins.{PinsLeft}
 use Rattle.netread.proofs.PinTurns.{left-start, next-short, next-inside, left-last, left-more, next_place}
-use Rattle.std.proofs.Common.{rules}
 use Rattle.netread.proofs.mark_pins.Goals as goal
 
 pub loop-g-init : goal.loop-g-init

@@ -1,12 +1,8 @@
 -- `mark_pins` meets its contract. The loop's invariant: what is left of the line, done from here, gives the whole answer.
 -- Assumes nothing.
-use mathlib.Core.Path.{ap, ◌∙◌}
-use Prim.Native.Nat.{◌-◌, ◌*◌, ◌+◌}
-use native.Mathlib.Omega.{arith}
+use Prim.Native.Nat.{◌-◌}
 use lib.ListN.{length}
-use Rattle.ways.specs.Ends.{after-long}
 use Rattle.netread.specs.Pins.{PinsLeft}
-use Rattle.netread.proofs.PinTurns.{left-start, next-short, next-inside, left-last, left-more, next_place}
 use Rattle.netread.proofs.mark_pins.Given as goal
 
 abbrev pub invariant-loop-g : goal.invariant-loop-g

@@ -10,7 +10,6 @@ use Rattle.layout.specs.Lent.{lent-part, put-part, put-outside}
 use Rattle.layout.specs.Parts.{part-long}
 use Rattle.marks.specs.Words.{Fits}
 use Rattle.netread.specs.Edges.{both_after, both_long}
-use Rattle.std.proofs.Common.{rules}
 use Rattle.netread.proofs.mark_ways.Goals as goal
 
 pub mark_both-requires : goal.mark_both-requires

@@ -5,11 +5,10 @@ use mathlib.Core.List.{List}
 use Prim.Native.Nat.{ℕ, ◌+◌, ◌≤◌}
 use native.Mathlib.Omega.{arith}
 use lib.ListN.{length}
-use Rattle.layout.specs.Areas.{tiles_at, tiles_of}
+use Rattle.layout.specs.Areas.{tiles_at}
 use Rattle.layout.specs.Lent.{lent-part, put-part, put-outside}
 use Rattle.layout.specs.Parts.{part-long}
 use Rattle.netread.specs.Pins.{after_pins}
-use Rattle.std.proofs.Common.{rules}
 use Rattle.netread.proofs.put_pins.Goals as goal
 
 pub mark_pins-requires : goal.mark_pins-requires

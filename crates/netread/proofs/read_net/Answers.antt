@@ -2,7 +2,6 @@
 -- Assumes nothing.
 use native.Mathlib.Omega.{arith}
 use Rattle.netread.proofs.Whole.{pins-are, edges_are, still-room, still-fits, net-read}
-use Rattle.std.proofs.Common.{rules}
 use Rattle.netread.proofs.read_net.Goals as goal
 use Rattle.netread.proofs.read_net.Goals.{After-put_pins-low}
 

@@ -4,7 +4,6 @@
 use mathlib.Core.Path.{refl}
 use borrow.Author.Tests.{not-true, not-false}
 use Rattle.nets.specs.Rings.{ring-there, ring-counted, no-ring-cut}
-use Rattle.std.proofs.Common.{rules}
 use Rattle.nets.proofs.cut_rings.Goals as goal
 use Rattle.nets.proofs.cut_rings.Goals.{Else-not-e}
 

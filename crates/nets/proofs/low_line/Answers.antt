@@ -1,13 +1,11 @@
 -- `low_line` meets its contract: where the line is there, its number is read; where it is not, nothing is read (`Lows.antt`).
 -- Assumes nothing.
-use mathlib.Core.Path.{refl}
 use Prim.Native.Nat.{◌+◌}
 use native.Mathlib.Omega.{arith}
 use lib.ListN.{length}
 use borrow.Author.Tests.{not-true, not-false}
 use Rattle.lines.specs.Told.{field-after}
 use Rattle.nets.proofs.Lows.{low-none, low-refused, low-range, low_value, low-after}
-use Rattle.std.proofs.Common.{rules}
 use Rattle.nets.proofs.low_line.Goals as goal
 use Rattle.nets.proofs.low_line.Goals.{After-ranged}
 

@@ -23,7 +23,6 @@ use Rattle.pins.specs.declared.PinsRead.TheVariants.{Line as PinsLine}
 use Rattle.text.specs.Refusals.{place_of}
 use Rattle.text.specs.declared.Cursor.{Cursor}
 use Rattle.nets.proofs.Body.{line-in, pins-bad, fine, still-few, still-room, begun, reading, edges-bad, pins-number, entries-number, cut-asks, dropped-number, body-found}
-use Rattle.std.proofs.Common.{rules}
 use Rattle.nets.proofs.net_body.Goals as goal
 use Rattle.nets.proofs.net_body.Goals.{After-cut_rings-dropped, After-edges_line, In-Line, In-Line-edges_line}
 

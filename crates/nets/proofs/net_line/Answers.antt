@@ -4,7 +4,6 @@ use Prim.Native.Nat.{◌+◌}
 use lib.ListN.{length}
 use Rattle.lines.specs.Told.{field-after}
 use Rattle.nets.proofs.Turns.{turn-refused, turn-other, turn-next}
-use Rattle.std.proofs.Common.{rules}
 use Rattle.nets.proofs.net_line.Goals as goal
 
 pub returns-then-n-turn : goal.returns-then-n-turn

@@ -13,7 +13,6 @@ use Rattle.model.specs.Read.{pins_line}
 use Rattle.lines.specs.Told.{mapped}
 use Rattle.pins.specs.Pins.{pins_told, pins_marked}
 use Rattle.text.specs.Refusals.{place_of}
-use Rattle.std.proofs.Common.{rules}
 use Rattle.nets.proofs.net_pins.Goals as goal
 
 pub pins_line-requires : goal.pins_line-requires

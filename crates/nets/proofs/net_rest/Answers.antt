@@ -9,7 +9,6 @@ use Rattle.layout.specs.Table.{vias_column}
 use Rattle.lines.specs.Told.{After}
 use Rattle.nets.specs.Nets.{low_at}
 use Rattle.nets.proofs.Lows.{low-holds, rest-refused, rest-goes-on}
-use Rattle.std.proofs.Common.{rules}
 use Rattle.nets.proofs.net_rest.Goals as goal
 use Rattle.nets.proofs.net_rest.Goals.{After-put_low, In-Low}
 

@@ -4,7 +4,6 @@ use mathlib.Core.Path.{ap}
 use Prim.Native.Nat.{ℕ}
 use native.Mathlib.Omega.{arith}
 use lib.ListN.{set}
-use Rattle.std.proofs.Common.{rules}
 use Rattle.nets.proofs.put_low.Goals as goal
 
 pub bounds-table-vias_column : goal.bounds-table-vias_column

@@ -3,7 +3,6 @@
 use Prim.Native.Nat.{◌+◌, ◌*◌}
 use native.Mathlib.Omega.{arith}
 use Rattle.nets.proofs.Stores.{still_one, still-two, still-three, still-four, row_is}
-use Rattle.std.proofs.Common.{rules}
 use Rattle.nets.proofs.put_row.Goals as goal
 use Rattle.nets.proofs.put_row.Goals.{After-count_column, After-edges_column, After-first_column, After-pins_column, After-tiles_column}
 

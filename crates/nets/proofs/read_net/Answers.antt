@@ -6,7 +6,6 @@ use native.Mathlib.Omega.{arith}
 use lib.ListN.{length}
 use Rattle.lines.specs.Told.{After, list-after}
 use Rattle.nets.proofs.Turns.{net-refused, net-goes-on}
-use Rattle.std.proofs.Common.{rules}
 use Rattle.nets.proofs.read_net.Goals as goal
 use Rattle.nets.proofs.read_net.Goals.{In-Next}
 

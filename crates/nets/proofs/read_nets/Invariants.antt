@@ -1,16 +1,12 @@
 -- `read_nets` meets its contract.
 -- Assumes nothing.
-use mathlib.Core.Path.{◌≡◌, refl, ◌∙◌, subst}
-use Prim.Native.Nat.{◌+◌, ◌-◌}
-use native.Mathlib.Omega.{arith}
+use mathlib.Core.Path.{◌≡◌}
+use Prim.Native.Nat.{◌-◌}
 use lib.ListN.{length}
 use Rattle.layout.specs.Shapes.{sizes_of}
-use Rattle.model.specs.Read.{net_lines, nets}
+use Rattle.model.specs.Read.{nets}
 use Rattle.text.specs.Refusals.{place_of}
-use Rattle.theory.specs.links.JobText.{option_lines}
-use Rattle.nets.specs.Nets.{NetTold}
-use Rattle.nets.specs.declared.NetRead.{NetRead}
-use Rattle.nets.proofs.Loop.{Midway, midway_start, midway-ready, midway-lines, midway-few, midway-stop, midway-next, midway_end, midway-count}
+use Rattle.nets.proofs.Loop.{Midway}
 use Rattle.nets.proofs.read_nets.Given as goal
 
 abbrev pub invariant-loop-i : goal.invariant-loop-i

@@ -1,7 +1,6 @@
 -- `add_edge` meets its contract.
 -- Assumes nothing.
 use Rattle.order.specs.Sums.{added}
-use Rattle.std.proofs.Common.{rules}
 use Rattle.order.proofs.add_edge.Goals as goal
 
 pub returns : goal.returns

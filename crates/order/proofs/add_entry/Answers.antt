@@ -3,7 +3,6 @@
 use mathlib.Core.Path.{subst}
 use Prim.Native.Nat.{ℕ}
 use Rattle.order.specs.Density.{Added}
-use Rattle.std.proofs.Common.{rules}
 use Rattle.order.proofs.add_entry.Goals as goal
 
 pub returns : goal.returns

@@ -5,7 +5,6 @@ use Rattle.model.specs.Read.{Triple}
 use Rattle.scan.specs.Pins.{triple}
 use Rattle.ways.specs.Entry.{edge_of, placed}
 use Rattle.order.specs.Sums.{kept-added, kept-passed}
-use Rattle.std.proofs.Common.{rules}
 use Rattle.order.proofs.add_kept.Goals as goal
 use Rattle.order.proofs.add_kept.Goals.{After-keeps}
 

@@ -16,7 +16,6 @@ use Rattle.net.specs.Dropped.{Remarked, remarked-same}
 use Rattle.order.specs.Density.{Weighed, weighed-none, weighed-sums}
 use Rattle.order.specs.Ready.{Ready, SomeNet}
 use Rattle.order.proofs.Scores.{line-ring, stamp-small}
-use Rattle.std.proofs.Common.{rules}
 use Rattle.order.proofs.cut_density.Goals as goal
 use Rattle.order.proofs.cut_density.Goals.{After-index-edges, After-mark_net}
 

@@ -4,7 +4,6 @@ use mathlib.Core.Path.{◌≡◌, ap}
 use Prim.Native.Nat.{ℕ, ◌/◌, max}
 use native.Mathlib.Nat.{div-le_self}
 use native.Mathlib.Omega.{arith}
-use Rattle.std.proofs.Common.{rules}
 use Rattle.order.proofs.floor_of.Goals as goal
 
 by_one : (n d : ℕ) → d ≡ 0 → n ≡ n / max d 1

@@ -1,13 +1,9 @@
 -- `kept_density` meets its contract. The loop's invariant: of the entries before the place at hand those are summed that are marked.
 -- Assumes nothing.
-use mathlib.Core.List.{List, [], ◌∷◌, ◌++◌}
-use Prim.Native.Nat.{ℕ, ◌-◌}
-use native.Mathlib.Omega.{arith}
+use Prim.Native.Nat.{◌-◌}
 use lib.ListN.{length}
-use Rattle.known.specs.Taken.{Taken, taken_start, taken-short, taken-inside, taken-room, taken-last, taken_more, taken-place}
-use Rattle.scan.specs.Pins.{triple}
-use Rattle.ways.specs.Entry.{edge_of}
-use Rattle.order.specs.Sums.{KeptSums, kept-none, kept-job}
+use Rattle.known.specs.Taken.{Taken}
+use Rattle.order.specs.Sums.{KeptSums}
 use Rattle.order.proofs.kept_density.Given as goal
 
 abbrev pub invariant-loop-g : goal.invariant-loop-g

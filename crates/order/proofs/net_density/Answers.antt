@@ -6,7 +6,6 @@ use Prim.Native.Nat.{ℕ}
 use Rattle.net.specs.Left.{edges-place, edges_none}
 use Rattle.order.specs.Density.{DensityOf}
 use Rattle.order.specs.Sums.{sums_none, sums-job}
-use Rattle.std.proofs.Common.{rules}
 use Rattle.order.proofs.net_density.Goals as goal
 
 pub bounds-s-at : goal.bounds-s-at

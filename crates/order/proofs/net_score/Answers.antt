@@ -14,7 +14,6 @@ use Rattle.order.specs.Density.{Weighed}
 use Rattle.order.specs.Ready.{Ready, SomeNet}
 use Rattle.order.specs.declared.Density.{Density}
 use Rattle.order.proofs.Scores.{line-there, line_at, line-all, kept-length, weights-small, pins_small, demand-small, score-is}
-use Rattle.std.proofs.Common.{rules}
 use Rattle.order.proofs.net_score.Goals as goal
 use Rattle.order.proofs.net_score.Goals.{After-weighed_density-x, After-wide-pins}
 

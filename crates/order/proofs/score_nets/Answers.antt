@@ -3,11 +3,10 @@
 -- Assumes nothing.
 use mathlib.Core.List.{List}
 use mathlib.Core.Path.{sym, subst}
-use Prim.Native.Nat.{ℕ, ◌+◌, ◌-◌}
+use Prim.Native.Nat.{ℕ, ◌+◌}
 use native.Mathlib.Omega.{arith}
 use Rattle.order.specs.Ready.{SomeNet}
 use Rattle.order.proofs.Scoring.{Scoring, scoring-first, scoring-marks, net-there, few, scoring-next, scoring-done}
-use Rattle.std.proofs.Common.{rules}
 use Rattle.order.proofs.score_nets.Goals as goal
 use Rattle.order.proofs.score_nets.Goals.{In-loop-i}
 

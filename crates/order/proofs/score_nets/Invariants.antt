@@ -1,12 +1,8 @@
 -- `score_nets` meets its contract. The loop's invariant: the first i scores are stored, the other rows still have the tiles of their pins, and the marks and the
 -- links are of the first i stamps; n - i falls.
 -- Assumes nothing.
-use mathlib.Core.List.{List}
-use mathlib.Core.Path.{sym, subst}
-use Prim.Native.Nat.{ℕ, ◌+◌, ◌-◌}
-use native.Mathlib.Omega.{arith}
-use Rattle.order.specs.Ready.{SomeNet}
-use Rattle.order.proofs.Scoring.{Scoring, scoring-first, scoring-marks, net-there, few, scoring-next, scoring-done}
+use Prim.Native.Nat.{◌-◌}
+use Rattle.order.proofs.Scoring.{Scoring}
 use Rattle.order.proofs.score_nets.Given as goal
 
 abbrev pub invariant-loop-i : goal.invariant-loop-i

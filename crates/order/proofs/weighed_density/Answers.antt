@@ -4,7 +4,6 @@ use mathlib.Core.List.{List}
 use mathlib.Core.Path.{sym, subst}
 use Prim.Native.Nat.{ℕ}
 use Rattle.order.specs.Density.{DensityOf, Weighed, weighed-none, weighed-sums}
-use Rattle.std.proofs.Common.{rules}
 use Rattle.order.proofs.weighed_density.Goals as goal
 
 pub returns-then-gamma-eq0 : goal.returns-then-gamma-eq0

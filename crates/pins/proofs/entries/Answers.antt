@@ -2,19 +2,16 @@
 -- Assumes nothing.
 use mathlib.Core.Bool.{true, false}
 use mathlib.Core.Path.{◌≡◌, refl, sym, ap, ◌∙◌}
-use Prim.Native.Nat.{◌+◌, ◌-◌, ◌≤◌}
 use native.Mathlib.Omega.{arith}
-use lib.ListN.{length, drop}
+use lib.ListN.{length}
 use borrow.Author.Tests.{not-true, not-false}
 use Rattle.text.specs.Entries.{pin_entry_at}
 use Rattle.text.specs.Items.{entry-is}
 use Rattle.text.specs.declared.Entry.TheVariants.{More}
-use Rattle.scan.specs.Pins.{triple, pins_of}
-use Rattle.pins.specs.Pins.{start, finish}
+use Rattle.scan.specs.Pins.{triple}
 use Rattle.pins.specs.declared.Seen.{Seen}
 use Rattle.pins.proofs.Entry.{work-long, seen-counts}
 use Rattle.pins.proofs.Turns.{turn-bad, turn_more, turn_last, turn-place, last-place}
-use Rattle.std.proofs.Common.{rules}
 use Rattle.pins.proofs.entries.Goals as goal
 use Rattle.pins.proofs.entries.Goals.{After-verdict, Else-e}
 

@@ -1,19 +1,10 @@
 -- `entries` meets its contract. The loop's invariant: what is left of the line, done from here, gives the whole answer.
 -- Assumes nothing.
-use mathlib.Core.Bool.{true, false}
-use mathlib.Core.Path.{◌≡◌, refl, sym, ap, ◌∙◌}
+use mathlib.Core.Path.{◌≡◌}
 use Prim.Native.Nat.{◌+◌, ◌-◌, ◌≤◌}
-use native.Mathlib.Omega.{arith}
 use lib.ListN.{length, drop}
-use borrow.Author.Tests.{not-true, not-false}
-use Rattle.text.specs.Entries.{pin_entry_at}
-use Rattle.text.specs.Items.{entry-is}
-use Rattle.text.specs.declared.Entry.TheVariants.{More}
-use Rattle.scan.specs.Pins.{triple, pins_of}
+use Rattle.scan.specs.Pins.{pins_of}
 use Rattle.pins.specs.Pins.{start, finish}
-use Rattle.pins.specs.declared.Seen.{Seen}
-use Rattle.pins.proofs.Entry.{work-long, seen-counts}
-use Rattle.pins.proofs.Turns.{turn-bad, turn_more, turn_last, turn-place, last-place}
 use Rattle.pins.proofs.entries.Given as goal
 
 abbrev pub invariant-loop-g : goal.invariant-loop-g

@@ -1,7 +1,6 @@
 -- `inside` meets its contract.
 -- Assumes nothing.
 use borrow.Author.Tests.{lt-ltb, le-ltb, le-leb, lt-leb}
-use Rattle.std.proofs.Common.{rules}
 use Rattle.pins.proofs.inside.Goals as goal
 
 pub returns-then-g-x : goal.returns-then-g-x

@@ -2,7 +2,6 @@
 -- Assumes nothing.
 use mathlib.Core.Path.{sym, ◌∙◌}
 use Rattle.pins.proofs.Entry.{seen_twice, seen-fresh, seen-known}
-use Rattle.std.proofs.Common.{rules}
 use Rattle.pins.proofs.mark_pin.Goals as goal
 
 pub returns-in-Twice : goal.returns-in-Twice

@@ -4,7 +4,6 @@ use mathlib.Core.Path.{refl, ◌∙◌}
 use lib.ListN.{length}
 use borrow.Author.Tests.{not-true, not-false}
 use Rattle.pins.proofs.Law.{line_other, line-there, line-in}
-use Rattle.std.proofs.Common.{rules}
 use Rattle.pins.proofs.pins_line.Goals as goal
 
 pub open_line-o-requires : goal.open_line-o-requires

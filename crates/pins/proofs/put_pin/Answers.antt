@@ -4,12 +4,10 @@ use mathlib.Core.Bool.{true}
 use mathlib.Core.Path.{◌≡◌, sym, ◌∙◌}
 use Prim.Native.Nat.{◌≤◌, ◌<◌}
 use native.Mathlib.Omega.{arith}
-use borrow.Author.Tests.{not-true, not-false}
 use Rattle.model.specs.Read.{pin_inside}
 use Rattle.scan.specs.Inside.{inside_is}
 use Rattle.scan.specs.Pins.{triple}
 use Rattle.pins.proofs.Entry.{put-outside, put-inside}
-use Rattle.std.proofs.Common.{rules}
 use Rattle.pins.proofs.put_pin.Goals as goal
 use Rattle.pins.proofs.put_pin.Goals.{Else-not-inside}
 

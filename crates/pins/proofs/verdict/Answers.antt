@@ -2,7 +2,6 @@
 -- Assumes nothing.
 use borrow.Author.Tests.{not-true, not-false}
 use Rattle.pins.proofs.Entry.{verdict-range, verdict-twice, verdict-fine}
-use Rattle.std.proofs.Common.{rules}
 use Rattle.pins.proofs.verdict.Goals as goal
 
 pub returns-then-not-v : goal.returns-then-not-v

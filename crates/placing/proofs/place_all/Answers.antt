@@ -13,7 +13,6 @@ use Rattle.turn.specs.Turn.{Turn}
 use Rattle.placing.specs.Turns.{Start, RowTurn}
 use Rattle.placing.proofs.Loop.{Mid, mid_start, mid-end, turn, net-counted, net-number, row-turn, mid-next}
 use Rattle.flat.specs.Limited.{limit_at}
-use Rattle.std.proofs.Common.{rules}
 use Rattle.placing.proofs.place_all.Goals as goal
 use Rattle.placing.proofs.place_all.Goals.{After-index-i, After-turn_of, Start as Begin}
 

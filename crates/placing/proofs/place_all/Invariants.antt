@@ -1,17 +1,12 @@
 -- `place_all` meets its contract. The loop's invariant: k nets have had their turns (`Mid`), and no length has changed; n - k falls.
 -- Assumes nothing.
-use mathlib.Core.Path.{◌≡◌, refl, sym, ap, ◌∙◌, subst}
-use mathlib.Core.List.{List}
-use Prim.Native.Nat.{ℕ, ◌+◌, ◌-◌, ◌*◌, ◌<◌, ◌≤◌}
-use native.Mathlib.Omega.{arith}
-use lib.ListN.{length, get_or, length-set}
-use Rattle.layout.specs.Table.{turn_column, vias_column}
+use mathlib.Core.Path.{◌≡◌}
+use Prim.Native.Nat.{◌-◌, ◌*◌, ◌≤◌}
+use lib.ListN.{length}
 use Rattle.model.specs.Job.{Job}
-use Rattle.model.specs.Limits.{most_nets}
 use Rattle.model.specs.Read.{Lent}
-use Rattle.turn.specs.Turn.{Turn}
-use Rattle.placing.specs.Turns.{Start, RowTurn}
-use Rattle.placing.proofs.Loop.{Mid, mid_start, mid-end, turn, net-counted, net-number, row-turn, mid-next}
+use Rattle.placing.specs.Turns.{Start}
+use Rattle.placing.proofs.Loop.{Mid}
 use Rattle.flat.specs.Limited.{limit_at}
 use Rattle.placing.proofs.place_all.Given as goal
 

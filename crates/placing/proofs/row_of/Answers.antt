@@ -1,7 +1,6 @@
 -- `row_of` meets its contract.
 -- Assumes nothing.
 use native.Mathlib.Omega.{arith}
-use Rattle.std.proofs.Common.{rules}
 use Rattle.placing.proofs.row_of.Goals as goal
 
 pub returns : goal.returns

@@ -7,7 +7,6 @@ use Rattle.turn.specs.Turn.{Turn, TurnAt}
 use Rattle.placing.specs.Turns.{RowTurn}
 use Rattle.placing.proofs.Row.{lent-inside, turn_at, answer_long, row_done}
 use Rattle.flat.specs.Limited.{limit_at}
-use Rattle.std.proofs.Common.{rules}
 use Rattle.placing.proofs.turn_of.Goals as goal
 use Rattle.placing.proofs.turn_of.Goals.{After-row_of-row}
 

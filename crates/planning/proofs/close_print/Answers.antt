@@ -3,7 +3,6 @@
 use mathlib.Core.Path.{ap, ◌∙◌}
 use Prim.Native.Nat.{ℕ}
 use lib.ListN.{replicate}
-use Rattle.std.proofs.Common.{rules}
 use Rattle.planning.proofs.close_print.Goals as goal
 
 pub returns : goal.returns

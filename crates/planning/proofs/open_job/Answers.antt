@@ -5,7 +5,6 @@ use native.Mathlib.Omega.{arith}
 use lib.ListN.{length}
 use Rattle.reader.specs.Whole.{lent_by, JobTold}
 use Rattle.planning.proofs.Steps.{shaped, nets-few, flat-room, small, reading-marks, some-job, opened}
-use Rattle.std.proofs.Common.{rules}
 use Rattle.planning.proofs.open_job.Goals as goal
 
 pub flat_capacities-requires : goal.flat_capacities-requires

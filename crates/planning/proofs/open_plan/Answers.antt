@@ -5,7 +5,6 @@ use mathlib.Core.Path.{sym, subst}
 use Rattle.reader.specs.Whole.{lent_by, HeadTold}
 use Rattle.reader.specs.declared.PrintRoom.TheVariants.{Absent}
 use Rattle.planning.specs.Opening.{OpenTold}
-use Rattle.std.proofs.Common.{rules}
 use Rattle.planning.proofs.open_plan.Goals as goal
 
 pub open_job-requires : goal.open_job-requires

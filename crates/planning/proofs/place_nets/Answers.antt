@@ -1,7 +1,7 @@
 -- `place_nets` meets its contract: overflow in the place of demand, the limits, the layers that run the other way closed, then the turns of all nets
 -- (`Steps.antt`).
 -- Assumes nothing.
-use mathlib.Core.Path.{◌≡◌, ◌∙◌}
+use mathlib.Core.Path.{◌∙◌}
 use mathlib.Core.List.{List}
 use Prim.Native.Nat.{ℕ}
 use native.Mathlib.Omega.{arith}
@@ -12,7 +12,6 @@ use Rattle.placing.specs.Turns.{Start}
 use Rattle.planning.specs.Closing.{Turned}
 use Rattle.planning.proofs.Steps.{tiles-room, few-nets, few-demands, overflows-here, few-most, few-over, flat-room-still, all_room, largest-told, placing-starts}
 use Rattle.flat.specs.Limited.{limit_at}
-use Rattle.std.proofs.Common.{rules}
 use Rattle.planning.proofs.place_nets.Goals as goal
 use Rattle.planning.proofs.place_nets.Goals.{After-close_layers, After-overflows-flat}
 

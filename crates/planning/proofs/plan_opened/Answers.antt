@@ -5,7 +5,6 @@ use lib.ListN.{length}
 use Rattle.planning.specs.Closing.{turned-to-place, ToClose, PlanClosed}
 use Rattle.planning.specs.declared.Opened.{Opened}
 use Rattle.planning.specs.declared.Planned.TheVariants.{Plan, Refused as NotPlanned}
-use Rattle.std.proofs.Common.{rules}
 use Rattle.planning.proofs.plan_opened.Goals as goal
 
 pub place_nets-requires : goal.place_nets-requires

@@ -12,7 +12,6 @@ use Rattle.model.specs.Read.{Lent}
 use Rattle.print.specs.Texts.{ldof_text}
 use Rattle.planning.specs.Closing.{Turned, turned-remarked, PlanMade}
 use Rattle.planning.proofs.Steps.{directives-asked, directives-some, rows-there, text-fits, print-made}
-use Rattle.std.proofs.Common.{rules}
 use Rattle.planning.proofs.print_nets.Goals as goal
 use Rattle.planning.proofs.print_nets.Goals.{After-ldof_of-last, After-place_nets-t}
 

@@ -5,7 +5,6 @@ use lib.ListN.{length}
 use Rattle.planning.specs.Closing.{ToPrint, PrintClosed}
 use Rattle.planning.specs.declared.Opened.{Opened}
 use Rattle.planning.specs.declared.Printed.TheVariants.{Refused as NotPrinted}
-use Rattle.std.proofs.Common.{rules}
 use Rattle.planning.proofs.print_opened.Goals as goal
 
 pub print_nets-requires : goal.print_nets-requires

@@ -3,7 +3,6 @@
 use mathlib.Core.List.{[], ◌∷◌}
 use Rattle.model.specs.Text.{bytes, decimals}
 use Rattle.put.specs.Wrote.{room-one, room-two, room-three, wrote_then}
-use Rattle.std.proofs.Common.{rules}
 use Rattle.print.proofs.put_layers.Goals as goal
 
 pub text-list-requires : goal.text-list-requires

@@ -1,14 +1,12 @@
 -- `put_ldof` meets its contract: nothing is written, or one line.
 -- Assumes nothing.
-use mathlib.Core.List.{List}
-use mathlib.Core.Path.{◌≡◌, refl, sym, subst}
-use Prim.Native.Nat.{ℕ, ◌+◌, ◌≤◌}
+use mathlib.Core.Path.{refl, sym, subst}
+use Prim.Native.Nat.{◌+◌, ◌≤◌}
 use native.Mathlib.Omega.{arith}
 use lib.ListN.{length}
 use Rattle.print.specs.Texts.{ldof_text}
 use Rattle.print.specs.declared.Ldof.{Ldof}
 use Rattle.put.specs.Wrote.{Wrote}
-use Rattle.std.proofs.Common.{rules}
 use Rattle.print.proofs.put_ldof.Goals as goal
 use Rattle.print.proofs.put_ldof.Goals.{In-Sum}
 

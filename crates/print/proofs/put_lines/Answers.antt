@@ -4,7 +4,6 @@ use native.Mathlib.Omega.{arith}
 use Rattle.model.specs.Print.{print_line}
 use Rattle.print.specs.Texts.{nets_text, turns_of, rows-turns, totals_text}
 use Rattle.put.specs.Wrote.{room-one, room-two, room-three, wrote_then}
-use Rattle.std.proofs.Common.{rules}
 use Rattle.print.proofs.put_lines.Goals as goal
 
 pub put_order-a-requires : goal.put_order-a-requires

@@ -3,7 +3,6 @@
 use mathlib.Core.List.{[], ◌∷◌}
 use Rattle.model.specs.Print.{print_line}
 use Rattle.put.specs.Wrote.{room-one, room-two, room-three, wrote_then}
-use Rattle.std.proofs.Common.{rules}
 use Rattle.print.proofs.put_net.Goals as goal
 
 pub line-a-requires : goal.line-a-requires

@@ -1,11 +1,8 @@
 -- `put_nets` meets its contract. The loop's invariant: the lines of the nets left, written from here, give the whole.
 -- Assumes nothing.
-use Prim.Native.Nat.{◌-◌, ◌≤◌, ◌<◌}
+use Prim.Native.Nat.{◌<◌}
 use native.Mathlib.Omega.{arith}
-use Rattle.print.specs.Texts.{nets_text}
-use Rattle.put.specs.Wrote.{Left}
 use Rattle.print.proofs.Nets.{nets-start, net-room, net-more, nets-end}
-use Rattle.std.proofs.Common.{rules}
 use Rattle.print.proofs.put_nets.Goals as goal
 
 pub loop-i-init : goal.loop-i-init

@@ -1,10 +1,8 @@
 -- `put_nets` meets its contract. The loop's invariant: the lines of the nets left, written from here, give the whole.
 -- Assumes nothing.
-use Prim.Native.Nat.{◌-◌, ◌≤◌, ◌<◌}
-use native.Mathlib.Omega.{arith}
+use Prim.Native.Nat.{◌-◌, ◌≤◌}
 use Rattle.print.specs.Texts.{nets_text}
 use Rattle.put.specs.Wrote.{Left}
-use Rattle.print.proofs.Nets.{nets-start, net-room, net-more, nets-end}
 use Rattle.print.proofs.put_nets.Given as goal
 
 abbrev pub invariant-loop-i : goal.invariant-loop-i

@@ -4,7 +4,6 @@ use mathlib.Core.List.{[], ◌∷◌}
 use Rattle.model.specs.Text.{bytes, decimals}
 use Rattle.print.specs.Texts.{turns_of}
 use Rattle.put.specs.Wrote.{room-one, room-two, room-three, wrote_then}
-use Rattle.std.proofs.Common.{rules}
 use Rattle.print.proofs.put_order.Goals as goal
 
 pub text-first-requires : goal.text-first-requires

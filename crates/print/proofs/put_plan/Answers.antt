@@ -7,7 +7,6 @@ use native.Mathlib.Omega.{arith}
 use lib.ListN.{length, length-append}
 use Rattle.print.specs.Texts.{lines_text, ldof_text}
 use Rattle.put.specs.Wrote.{wrote-long, wrote_then, from_start}
-use Rattle.std.proofs.Common.{rules}
 use Rattle.print.proofs.put_plan.Goals as goal
 use Rattle.print.proofs.put_plan.Goals.{Start}
 

@@ -3,7 +3,6 @@
 use native.Mathlib.Omega.{arith}
 use Rattle.print.specs.Refusal.{refusal-long}
 use Rattle.put.specs.Wrote.{wrote_then, from_start}
-use Rattle.std.proofs.Common.{rules}
 use Rattle.print.proofs.put_refusal.Goals as goal
 use Rattle.print.proofs.put_refusal.Goals.{After-text-first}
 

@@ -3,7 +3,6 @@
 use lib.ListN.{length}
 use Rattle.put.specs.Wrote.{wrote_as}
 use Rattle.print.proofs.Nets.{row_is, row_room}
-use Rattle.std.proofs.Common.{rules}
 use Rattle.print.proofs.put_row.Goals as goal
 
 pub put_net-requires : goal.put_net-requires

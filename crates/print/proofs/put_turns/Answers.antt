@@ -1,14 +1,10 @@
 -- `put_turns` meets its contract. The loop's invariant: the nets left, written from here, give all behind the first.
 -- Assumes nothing.
 use mathlib.Core.Path.{◌∙◌}
-use Prim.Native.Nat.{◌+◌, ◌-◌, ◌≤◌, ◌<◌}
+use Prim.Native.Nat.{◌<◌}
 use native.Mathlib.Omega.{arith}
-use lib.ListN.{length, drop}
-use Rattle.put.specs.Lists.{others}
-use Rattle.print.specs.Texts.{turns_of}
-use Rattle.put.specs.Wrote.{Left, wrote-long, left-start}
+use Rattle.put.specs.Wrote.{wrote-long, left-start}
 use Rattle.print.proofs.Turns.{turns-none, turn-room, turn_more, first-room, others-room, turns-whole, turns-end}
-use Rattle.std.proofs.Common.{rules}
 use Rattle.print.proofs.put_turns.Goals as goal
 
 pub returns-then-n-eq0 : goal.returns-then-n-eq0

@@ -1,13 +1,10 @@
 -- `put_turns` meets its contract. The loop's invariant: the nets left, written from here, give all behind the first.
 -- Assumes nothing.
-use mathlib.Core.Path.{◌∙◌}
-use Prim.Native.Nat.{◌+◌, ◌-◌, ◌≤◌, ◌<◌}
-use native.Mathlib.Omega.{arith}
+use Prim.Native.Nat.{◌+◌, ◌-◌, ◌≤◌}
 use lib.ListN.{length, drop}
 use Rattle.put.specs.Lists.{others}
 use Rattle.print.specs.Texts.{turns_of}
-use Rattle.put.specs.Wrote.{Left, wrote-long, left-start}
-use Rattle.print.proofs.Turns.{turns-none, turn-room, turn_more, first-room, others-room, turns-whole, turns-end}
+use Rattle.put.specs.Wrote.{Left}
 use Rattle.print.proofs.put_turns.Given as goal
 
 abbrev pub invariant-loop-k : goal.invariant-loop-k

@@ -8,7 +8,6 @@ use Rattle.layout.specs.Areas.{loads_at, flat_at, tiles_at, chosen_at}
 use Rattle.layout.specs.Fill.{PartCleared}
 use Rattle.layout.specs.declared.Shape.{Shape}
 use Rattle.nets.specs.Nets.{CountsCleared}
-use Rattle.std.proofs.Common.{rules}
 use Rattle.reader.proofs.clear_counts.Goals as goal
 
 -- both parts are cleared, one after the other

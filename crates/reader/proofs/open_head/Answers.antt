@@ -3,7 +3,6 @@
 use mathlib.Core.Path.{◌∙◌}
 use native.Mathlib.Omega.{arith}
 use Rattle.reader.proofs.Job.{no-head, head-holds, areas-fit, head-found}
-use Rattle.std.proofs.Common.{rules}
 use Rattle.reader.proofs.open_head.Goals as goal
 
 pub clear_counts-requires : goal.clear_counts-requires

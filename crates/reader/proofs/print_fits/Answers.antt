@@ -1,7 +1,6 @@
 -- `print_fits` meets its contract.
 -- Assumes nothing.
 use Rattle.reader.proofs.Ends.{fits-bytes}
-use Rattle.std.proofs.Common.{rules}
 use Rattle.reader.proofs.print_fits.Goals as goal
 
 pub returns-in-Bytes : goal.returns-in-Bytes

@@ -1,9 +1,7 @@
 -- `read_end` meets its contract.
 -- Assumes nothing.
 use mathlib.Core.Path.{sym, ◌∙◌}
-use borrow.Author.Tests.{not-true, not-false}
 use Rattle.reader.proofs.Ends.{end_more, end_short, end-narrow, end_fits}
-use Rattle.std.proofs.Common.{rules}
 use Rattle.reader.proofs.read_end.Goals as goal
 use Rattle.reader.proofs.read_end.Goals.{Else-c-s}
 

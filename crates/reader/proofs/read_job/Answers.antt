@@ -2,10 +2,8 @@
 -- Assumes nothing.
 use mathlib.Core.Path.{refl, subst}
 use lib.ListN.{length}
-use Rattle.head.specs.declared.HeadRead.{HeadRead}
 use Rattle.reader.specs.Whole.{HeadTold, HeadFound}
 use Rattle.reader.proofs.Job.{nets-may-start, job-told}
-use Rattle.std.proofs.Common.{rules}
 use Rattle.reader.proofs.read_job.Goals as goal
 use Rattle.reader.proofs.read_job.Goals.{In-Head}
 

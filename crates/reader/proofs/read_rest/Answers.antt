@@ -10,7 +10,6 @@ use Rattle.nets.specs.Nets.{NetsTold}
 use Rattle.nets.specs.declared.NetsRead.{NetsRead}
 use Rattle.reader.proofs.Ends.{nets-found, rest-no-nets, rest-no-end, rest-found}
 use Rattle.nets.proofs.Loop.{nets-few}
-use Rattle.std.proofs.Common.{rules}
 use Rattle.reader.proofs.read_rest.Goals as goal
 
 pub read_end-requires : goal.read_end-requires

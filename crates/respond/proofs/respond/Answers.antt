@@ -1,12 +1,10 @@
 -- `respond` meets its contract.
 -- Assumes nothing.
-use mathlib.Core.List.{List}
 use mathlib.Core.Path.{sym, ap, ap₂, ◌∙◌}
-use Prim.Native.Nat.{ℕ}
 use lib.ListN.{length}
 use Rattle.model.specs.Calls.{overwrite}
 use Rattle.model.specs.Program.{program}
-use Rattle.respond.proofs.Written.{too_long, program-refused, program-printed, inside}
+use Rattle.respond.proofs.Written.{program-refused, program-printed, inside}
 use Rattle.respond.proofs.respond.Goals as goal
 
 pub returns-in-Refused : goal.returns-in-Refused

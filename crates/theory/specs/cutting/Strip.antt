@@ -4,7 +4,7 @@
 use Rattle.std.specs.Prelude.{◌≡◌, refl, List, [], ◌∷◌, ◌++◌, Bool, true, false, ◌&&◌, not, cond, ◌⊎◌, ◌≢◌, ℕ, zero, suc, ◌+◌, ◌≤◌, ◌<◌, T, eqb, length}
 use Rattle.std.proofs.Common.{sym, ap, ◌∙◌, subst, inl, inr, ⊎_elim, arith}
 use Rattle.model.specs.Lists.{has}
-use Rattle.theory.specs.congestion.Sums.{sum, bit, same, occurs, In, keep, in-keep, keep-few, lt-or-ge, same_cases, eqb-true, eqb-false, in_head, in_tail}
+use Rattle.theory.specs.congestion.Sums.{sum, bit, same, occurs, In, keep, in-keep, keep-few, lt-or-ge, same_cases, eqb-true, in_head, in_tail}
 use Rattle.theory.specs.walk.Stops.{At, Fits, far, far-other, less-length}
 use Rattle.theory.specs.congestion.Tests.{is_true, has_in}
 use Rattle.model.specs.Cut.{pruned_in}

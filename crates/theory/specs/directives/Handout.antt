@@ -1,7 +1,7 @@
 -- One edge: the summed excess is the fewest nets that must go without a track on a wanted layer, over all ways to hand out tracks.
 -- `ws` are the wanted layers of the nets, in any order; `hs` hold the layer that each net is given, 0 where it goes without.
 -- Assumes nothing.
-use Rattle.std.specs.Prelude.{◌≡◌, refl, List, [], ◌∷◌, Bool, true, false, cond, ◌⊎◌, ℕ, zero, suc, ◌+◌, ◌-◌, ◌≤◌, ◌<◌, min, ltb, length, get_or}
+use Rattle.std.specs.Prelude.{◌≡◌, refl, List, [], ◌∷◌, Bool, true, false, cond, ◌⊎◌, ℕ, zero, suc, ◌+◌, ◌-◌, ◌≤◌, ◌<◌, min, ltb, length}
 use Rattle.std.proofs.Common.{sym, ap, subst, inl, inr, ⊎_elim, arith, ltb-true, ltb-false}
 use Rattle.model.specs.Directives.{virtual_capacity, virtual_demand, excess, summed_excess, Fits, HandOut, Fewest}
 use Rattle.model.specs.Lists.{up_from, sum, occurs, In}

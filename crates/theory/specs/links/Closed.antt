@@ -1,7 +1,7 @@
 -- A layer that runs the other way has no capacity and, in a layering along the allowed layers, no net: so sums and maxima over the layers that an edge may
 -- use are those over all K layers, as document 01 has them. Document 02, S-2, row 12.
 -- Assumes nothing.
-use Rattle.std.specs.Prelude.{◌≡◌, refl, List, [], ◌∷◌, ◌++◌, Bool, true, false, ◌&&◌, ◌⊎◌, ℕ, zero, suc, ◌+◌, ◌-◌, ◌≤◌, ◌<◌, T, eqb, leb, ltb, length, get_or}
+use Rattle.std.specs.Prelude.{◌≡◌, refl, List, [], ◌∷◌, ◌++◌, Bool, true, false, ◌⊎◌, ℕ, zero, suc, ◌+◌, ◌-◌, ◌≤◌, ◌<◌, T, eqb, ltb, length, get_or}
 use Rattle.std.proofs.Common.{sym, ap, ◌∙◌, subst, inl, inr, ⊎_elim, arith, eqb→eq, lt→ltb, ltb→lt, get_or-append-add}
 use Rattle.std.proofs.Math.Option.{Option, none, some}
 use Rattle.std.proofs.Math.ListN.{get_or-append}
@@ -9,18 +9,13 @@ use Rattle.model.specs.Demand3.{Layering}
 use Rattle.model.specs.Grid.{east_count, north_count}
 use Rattle.model.specs.Job.{Job, all_edges, group_in, runs, group, layers_of, capacity, net_edges}
 use Rattle.model.specs.Layering.{IsChoice, IsLayering}
-use Rattle.model.specs.Legal.{sum_over, put, is_legal}
 use Rattle.model.specs.Lists.{up_from, all}
-use Rattle.model.specs.Overflow.{over, uses, load, flat_capacity, layer_overflow, total_overflow, max_overflow}
-use Rattle.model.specs.Plan.{placed}
+use Rattle.model.specs.Overflow.{uses, load, flat_capacity, layer_overflow, total_overflow, max_overflow}
 use Rattle.model.specs.Read.{Lent}
-use Rattle.model.specs.Score.{Entry}
-use Rattle.theory.specs.congestion.Sums.{sum, most, same, occurs, In, keep, same_cases, lt-or-ge, sum-eq, sum-keep, most-keep}
+use Rattle.theory.specs.congestion.Sums.{sum, most, same, occurs, In, same_cases, lt-or-ge, sum-eq, sum-keep, most-keep}
 use Rattle.theory.specs.congestion.Base.{in-up_from}
-use Rattle.theory.specs.congestion.Edge.{put_other}
 use Rattle.theory.specs.congestion.Loads.{mark-one, mark-none}
 use Rattle.theory.specs.links.Layers.{in-layers}
-use Rattle.theory.specs.links.Planned.{Midway}
 use Rattle.theory.specs.congestion.Tests.{is_true, is_false, cond_both}
 use Rattle.theory.specs.links.Reading.{Closed, EachClosed, Accepted}
 

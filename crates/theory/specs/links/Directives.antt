@@ -1,9 +1,8 @@
 -- Layer directives over the nets of a job: the printed sum is, edge by edge, the fewest nets with a wanted layer above 1 that must go without a track on one.
 -- Assumes nothing.
 use Rattle.std.specs.Prelude.{◌≡◌, refl, List, [], ◌∷◌, ◌++◌, map, Bool, true, false, ◌&&◌, cond, ◌⊎◌, ◌≢◌, ℕ, suc, ◌+◌, ◌-◌, ◌*◌, ◌≤◌, ◌<◌, ltb, eqb}
-use Rattle.std.proofs.Common.{sym, ap, ◌∙◌, subst, inl, inr, ⊎_elim, arith, lt-ltb, le-ltb}
+use Rattle.std.proofs.Common.{sym, inl, inr, ⊎_elim, arith, lt-ltb, le-ltb}
 use Rattle.std.proofs.Math.ListN.{length}
-use Rattle.std.proofs.lemmas.List.{length-map}
 use Rattle.model.specs.Directives.{summed_excess, wanting, wants, ldof_at, ldof, has_low, Fewest}
 use Rattle.model.specs.Job.{Net, low_of, Job, all_edges, edge_count, net_count, no_net, net_of, capacity}
 use Rattle.model.specs.Lists.{bit, sum, occurs, In, keep, count, has}
@@ -11,8 +10,8 @@ use Rattle.model.specs.Print.{print_line, plan_lines, printed}
 use Rattle.model.specs.Read.{Lent, Place, found, read}
 use Rattle.model.specs.Score.{Entry}
 use Rattle.theory.specs.congestion.Base.{length-up_from}
-use Rattle.theory.specs.congestion.Sums.{same, same_cases, eqb-true, eqb-false, sum_bound, sum-zero, lt-or-ge}
-use Rattle.theory.specs.directives.Demand.{excess-none, excess-eq}
+use Rattle.theory.specs.congestion.Sums.{same, same_cases, eqb-true, eqb-false, sum_bound, lt-or-ge}
+use Rattle.theory.specs.directives.Demand.{excess-eq}
 use Rattle.theory.specs.directives.Handout.{Wanted, excess-fewest, excess_small}
 use Rattle.theory.specs.links.Nets.{EachNet}
 use Rattle.theory.specs.links.Planned.{net-at}

@@ -5,7 +5,7 @@ use Rattle.std.proofs.Common.{sym, ap, ap₂, ◌∙◌, arith, mul_assoc, mul-l
 use Rattle.std.proofs.Math.Option.{Option, none, some}
 use Rattle.model.specs.Grid.{east_count}
 use Rattle.model.specs.Job.{Job, all_edges, group_in, group, layers_in, layers_of}
-use Rattle.model.specs.Lists.{up_from, all}
+use Rattle.model.specs.Lists.{up_from}
 use Rattle.model.specs.Overflow.{flat_overflow, MO, group_most, limit, layer_overflow, max_overflow, peak}
 use Rattle.theory.specs.congestion.Sums.{most, keep}
 use Rattle.theory.specs.congestion.Edge.{ceil_div, ceil-le, le-ceil, ceil-zero}

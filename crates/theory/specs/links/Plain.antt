@@ -1,7 +1,7 @@
 -- A job without the line `dirs` is as document 01 has it: one group of edges, all layers, one limit, one maximum, and it is read as before. Document 02,
 -- S-2: "jobs without the line read as before".
 -- Assumes nothing.
-use Rattle.std.specs.Prelude.{◌≡◌, refl, Bool, true, not, ◌↔◌, ℕ, zero, suc, ◌+◌, ◌-◌, ◌≤◌, T, eqb, leb, length}
+use Rattle.std.specs.Prelude.{◌≡◌, refl, Bool, true, not, ◌↔◌, ℕ, zero, suc, ◌≤◌, T, eqb, leb, length}
 use Rattle.std.proofs.Math.Path.{ap, fun_ext}
 use Rattle.std.proofs.Common.{ap₂, ◌∙◌, arith}
 use mathlib.Core.List.{List, [], ◌∷◌, ◌++◌, map}

@@ -5,7 +5,7 @@ use Rattle.std.proofs.Common.{ap₂, ◌∙◌, inl, inr, ⊎_elim, arith, mul-l
 use Rattle.std.proofs.lemmas.List.{length-map}
 use Rattle.model.specs.Lists.{any, twice, up_from, sum}
 use Rattle.model.specs.Job.{Pin, Net, Job, net_count, tile_count, net_of}
-use Rattle.model.specs.Limits.{most_side, most_layers, most_capacity, most_nets}
+use Rattle.model.specs.Limits.{most_side, most_layers, most_capacity}
 use Rattle.model.specs.Overflow.{flat_demand, flat_capacity}
 use Rattle.model.specs.Read.{same_pin, Lent}
 use Rattle.model.specs.Score.{score}

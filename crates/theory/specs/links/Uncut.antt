@@ -7,7 +7,7 @@ use Rattle.model.specs.Overflow.{demand, flat_demand, flat_overflow, TO, MO, cei
 use Rattle.model.specs.Read.{Lent}
 use Rattle.model.specs.Tree.{ring}
 use Rattle.theory.specs.congestion.Edge.{ceil-le, le-ceil, ceil-zero}
-use Rattle.theory.specs.congestion.Sums.{most, In, most-le, most-part, sum_mono}
+use Rattle.theory.specs.congestion.Sums.{most, most-le, most-part, sum_mono}
 use Rattle.theory.specs.links.Cut.{cut_all}
 use Rattle.theory.specs.links.Dropped.{edges-part}
 use Rattle.theory.specs.links.Nets.{EachNet, NetOk}

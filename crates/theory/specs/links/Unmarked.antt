@@ -1,19 +1,19 @@
 -- "The placing is untouched": scores, order, plan and all printed lines but `ldof` are those of the job without its `low` lines.
 -- Assumes nothing.
 use Rattle.std.specs.Prelude.{◌≡◌, refl, Bool, true, false, cond, ℕ, zero, suc, ◌+◌, ◌-◌, length, get_or, set, replicate}
-use Rattle.std.proofs.Common.{sym, ◌∙◌}
+use Rattle.std.proofs.Common.{◌∙◌}
 use Rattle.std.proofs.Math.Path.{ap, ap₂}
 use mathlib.Core.List.{List, [], ◌∷◌, ◌++◌, map, append-nil}
 use Rattle.std.proofs.Math.Option.{none}
 use Rattle.std.proofs.lemmas.List.{length-map}
 use Rattle.model.specs.Choices.{choices, least_of}
-use Rattle.model.specs.Directives.{ldof, given, has_low}
+use Rattle.model.specs.Directives.{ldof, given}
 use Rattle.model.specs.Grid.{Way}
 use Rattle.model.specs.Job.{Pin, Net, Job, net_count, tile_count, edge_count, ends, group, layers_in, layers_of, edges_in, all_edges, capacity, no_net, net_of, net_edges}
 use Rattle.model.specs.Legal.{is_legal}
 use Rattle.model.specs.Lists.{up_from, sum, most, keep, any}
 use Rattle.model.specs.Overflow.{over, demand, flat_capacity, ceil_div, load, total_overflow, max_overflow}
-use Rattle.model.specs.Plan.{legal, layer_of, best, plan_from, plan, answered, net_vias, total_vias}
+use Rattle.model.specs.Plan.{legal, layer_of, best, plan_from, plan, answered, net_vias}
 use Rattle.model.specs.Print.{print_line, print_nets, plan_lines, printed}
 use Rattle.model.specs.Score.{length_term, pin_term, density_term, different_tiles, score, Entry, goes_first, insert_entry, sorted, scored, order}
 use Rattle.model.specs.Vias.{span, pin_layers, meets, edge_layers, vias}

@@ -1,11 +1,9 @@
 -- `close_edges` meets its contract: edge after edge (`Shut.antt`).
 -- Assumes nothing.
 use mathlib.Core.Path.{◌≡◌, subst}
-use Prim.Native.Nat.{ℕ, ◌-◌, ◌≤◌}
+use Prim.Native.Nat.{ℕ}
 use native.Mathlib.Omega.{arith}
-use lib.ListN.{length}
 use Rattle.tracks.specs.Shut.{Shut, shut_none, shut-next}
-use Rattle.std.proofs.Common.{rules}
 use Rattle.tracks.proofs.close_edges.Goals as goal
 
 pub loop-e-init : goal.loop-e-init

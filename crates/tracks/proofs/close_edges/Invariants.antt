@@ -1,10 +1,7 @@
 -- `close_edges` meets its contract: edge after edge (`Shut.antt`).
 -- Assumes nothing.
-use mathlib.Core.Path.{◌≡◌, subst}
-use Prim.Native.Nat.{ℕ, ◌-◌, ◌≤◌}
-use native.Mathlib.Omega.{arith}
-use lib.ListN.{length}
-use Rattle.tracks.specs.Shut.{Shut, shut_none, shut-next}
+use Prim.Native.Nat.{◌-◌, ◌≤◌}
+use Rattle.tracks.specs.Shut.{Shut}
 use Rattle.tracks.proofs.close_edges.Given as goal
 
 abbrev pub invariant-loop-e : goal.invariant-loop-e

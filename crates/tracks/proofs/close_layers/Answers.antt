@@ -2,9 +2,7 @@
 -- Assumes nothing.
 use mathlib.Core.Path.{◌∙◌}
 use native.Mathlib.Omega.{arith}
-use lib.ListN.{length}
 use Rattle.tracks.specs.Shut.{closed-any, closed-given}
-use Rattle.std.proofs.Common.{rules}
 use Rattle.tracks.proofs.close_layers.Goals as goal
 
 pub close_edges-requires : goal.close_edges-requires

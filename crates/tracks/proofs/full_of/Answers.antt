@@ -1,7 +1,6 @@
 -- `full_of` meets its contract.
 -- Assumes nothing.
 use borrow.Author.Tests.{le-leb, lt-leb}
-use Rattle.std.proofs.Common.{rules}
 use Rattle.tracks.proofs.full_of.Goals as goal
 
 pub returns-then-cap-load : goal.returns-then-cap-load

@@ -9,7 +9,6 @@ use Rattle.tracks.specs.Legal.{open_to, open_in, legal_mask}
 use Rattle.tracks.specs.Masks.{bits_up, bits-few}
 use Rattle.tracks.proofs.Layers.{mask_fits, mask_is}
 use Rattle.tracks.proofs.Turns.{bits-halves}
-use Rattle.std.proofs.Common.{rules}
 use Rattle.tracks.proofs.legal.Goals as goal
 use Rattle.tracks.proofs.legal.Goals.{After-room_of-room}
 

@@ -8,7 +8,6 @@ use Rattle.layout.specs.Areas.{demand_at}
 use Rattle.model.specs.Limits.{most_nets}
 use Rattle.tracks.specs.Occupied.{cap_place, load_place, full_of}
 use Rattle.tracks.proofs.Layers.{load_fits, left-fits, occupied-is}
-use Rattle.std.proofs.Common.{rules}
 use Rattle.tracks.proofs.occupy.Goals as goal
 use Rattle.tracks.proofs.occupy.Goals.{After-full_of}
 

@@ -1,13 +1,12 @@
 -- `occupy_all` meets its contract. The loop's invariant: what is left of the net's edges, put on their layers from here, gives the whole answer.
 -- Assumes nothing.
 use mathlib.Core.Path.{◌≡◌}
-use Prim.Native.Nat.{ℕ, ◌+◌, ◌-◌, ◌*◌, ◌≤◌}
+use Prim.Native.Nat.{ℕ, ◌+◌, ◌*◌, ◌≤◌}
 use native.Mathlib.Omega.{arith}
 use lib.ListN.{length}
 use Rattle.layout.specs.Areas.{flat_at, above_at}
 use Rattle.tracks.specs.OccupiedAll.{layers_at}
-use Rattle.tracks.proofs.Occupying.{Occupying, occupying-start, occupying-done, turn-takes, occupying-next}
-use Rattle.std.proofs.Common.{rules}
+use Rattle.tracks.proofs.Occupying.{occupying-start, occupying-done, turn-takes, occupying-next}
 use Rattle.tracks.proofs.occupy_all.Goals as goal
 use Rattle.tracks.proofs.occupy_all.Goals.{After-struct_known-1}
 

@@ -1,12 +1,7 @@
 -- `occupy_all` meets its contract. The loop's invariant: what is left of the net's edges, put on their layers from here, gives the whole answer.
 -- Assumes nothing.
-use mathlib.Core.Path.{◌≡◌}
-use Prim.Native.Nat.{ℕ, ◌+◌, ◌-◌, ◌*◌, ◌≤◌}
-use native.Mathlib.Omega.{arith}
-use lib.ListN.{length}
-use Rattle.layout.specs.Areas.{flat_at, above_at}
-use Rattle.tracks.specs.OccupiedAll.{layers_at}
-use Rattle.tracks.proofs.Occupying.{Occupying, occupying-start, occupying-done, turn-takes, occupying-next}
+use Prim.Native.Nat.{◌-◌, ◌≤◌}
+use Rattle.tracks.proofs.Occupying.{Occupying}
 use Rattle.tracks.proofs.occupy_all.Given as goal
 
 abbrev pub invariant-loop-i : goal.invariant-loop-i

@@ -2,12 +2,11 @@
 -- Assumes nothing.
 use mathlib.Core.Bool.{Bool, cond}
 use mathlib.Core.Path.{◌≡◌, refl, ap, ◌∙◌}
-use Prim.Native.Nat.{ℕ, ◌-◌, ◌^◌, ◌≤◌, ◌<◌}
+use Prim.Native.Nat.{ℕ, ◌≤◌, ◌<◌}
 use native.Mathlib.Omega.{arith}
 use Rattle.tracks.specs.Legal.{open_in}
 use Rattle.tracks.specs.Masks.{bits_up, bits-few}
 use Rattle.tracks.proofs.Turns.{bits-next, value-next, value-small, part_small}
-use Rattle.std.proofs.Common.{rules}
 use Rattle.tracks.proofs.open_layers.Goals as goal
 use Rattle.tracks.proofs.open_layers.Goals.{At-loop-i}
 

@@ -1,12 +1,9 @@
 -- `open_layers` meets its contract. The loop's invariant: the mask has the bits of the layers before i, and `value` is the next one's.
 -- Assumes nothing.
-use mathlib.Core.Bool.{Bool, cond}
-use mathlib.Core.Path.{◌≡◌, refl, ap, ◌∙◌}
-use Prim.Native.Nat.{ℕ, ◌-◌, ◌^◌, ◌≤◌, ◌<◌}
-use native.Mathlib.Omega.{arith}
+use mathlib.Core.Path.{◌≡◌}
+use Prim.Native.Nat.{◌-◌, ◌^◌, ◌≤◌}
 use Rattle.tracks.specs.Legal.{open_in}
-use Rattle.tracks.specs.Masks.{bits_up, bits-few}
-use Rattle.tracks.proofs.Turns.{bits-next, value-next, value-small, part_small}
+use Rattle.tracks.specs.Masks.{bits_up}
 use Rattle.tracks.proofs.open_layers.Given as goal
 
 abbrev pub invariant-loop-i : goal.invariant-loop-i

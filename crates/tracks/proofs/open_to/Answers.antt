@@ -1,7 +1,6 @@
 -- `open_to` meets its contract.
 -- Assumes nothing.
 use borrow.Author.Tests.{lt-ltb, le-ltb}
-use Rattle.std.proofs.Common.{rules}
 use Rattle.tracks.proofs.open_to.Goals as goal
 
 pub returns-then-load-cap : goal.returns-then-load-cap

@@ -1,7 +1,6 @@
 -- `room_of` meets its contract.
 -- Assumes nothing.
 use borrow.Author.Tests.{lt-ltb, le-ltb}
-use Rattle.std.proofs.Common.{rules}
 use Rattle.tracks.proofs.room_of.Goals as goal
 
 pub returns-then-left-gt0 : goal.returns-then-left-gt0

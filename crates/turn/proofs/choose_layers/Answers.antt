@@ -10,7 +10,6 @@ use Rattle.turn.specs.Turn.{Turn, turn_net, turn_limit, NetWalked}
 use Rattle.turn.proofs.Choosing.{tiles-fit, limit-fits, small, known, holds, holds-net, net-chosen, chosen-long}
 use Rattle.turn.specs.Steps.{engine_of}
 use Rattle.flat.specs.Limited.{limit_at}
-use Rattle.std.proofs.Common.{rules}
 use Rattle.turn.proofs.choose_layers.Goals as goal
 use Rattle.turn.proofs.choose_layers.Goals.{After-place}
 

@@ -1,13 +1,12 @@
 -- `clear_chosen` meets its contract. The loop's invariant: nothing stands any more for the first i edges listed.
 -- Assumes nothing.
 use mathlib.Core.Path.{◌≡◌, sym, ap, ap₂, ◌∙◌}
-use Prim.Native.Nat.{ℕ, ◌+◌, ◌-◌, ◌*◌, ◌≤◌, ◌<◌}
+use Prim.Native.Nat.{ℕ, ◌+◌, ◌-◌, ◌*◌, ◌<◌}
 use native.Mathlib.Omega.{arith}
 use lib.ListN.{length, get_or}
 use Rattle.layout.specs.Areas.{chosen_at, list_at}
 use Rattle.layout.specs.Parts.{outside_wider}
-use Rattle.turn.proofs.Answer.{Clearing, clearing-start, clearing-next}
-use Rattle.std.proofs.Common.{rules}
+use Rattle.turn.proofs.Answer.{clearing-start, clearing-next}
 use Rattle.turn.proofs.clear_chosen.Goals as goal
 use Rattle.turn.proofs.clear_chosen.Goals.{After-chosen_at-chosen, At-loop-i}
 

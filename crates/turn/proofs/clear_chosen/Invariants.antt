@@ -1,12 +1,7 @@
 -- `clear_chosen` meets its contract. The loop's invariant: nothing stands any more for the first i edges listed.
 -- Assumes nothing.
-use mathlib.Core.Path.{◌≡◌, sym, ap, ap₂, ◌∙◌}
-use Prim.Native.Nat.{ℕ, ◌+◌, ◌-◌, ◌*◌, ◌≤◌, ◌<◌}
-use native.Mathlib.Omega.{arith}
-use lib.ListN.{length, get_or}
-use Rattle.layout.specs.Areas.{chosen_at, list_at}
-use Rattle.layout.specs.Parts.{outside_wider}
-use Rattle.turn.proofs.Answer.{Clearing, clearing-start, clearing-next}
+use Prim.Native.Nat.{◌-◌, ◌≤◌}
+use Rattle.turn.proofs.Answer.{Clearing}
 use Rattle.turn.proofs.clear_chosen.Given as goal
 
 -- the part of what is chosen by edge has g.t * 2 numbers; where it ends the list begins

@@ -3,7 +3,6 @@
 use Prim.Native.Nat.{◌+◌, ◌*◌}
 use native.Mathlib.Omega.{arith}
 use Rattle.turn.proofs.Engine.{lent-holds, put_back}
-use Rattle.std.proofs.Common.{rules}
 use Rattle.turn.proofs.place.Goals as goal
 
 pub place_layers-requires : goal.place_layers-requires

@@ -1,12 +1,11 @@
 -- `put_answer` meets its contract. The loop's invariant: the first i layers are written.
 -- Assumes nothing.
 use mathlib.Core.Path.{◌≡◌, ap, ap₂}
-use Prim.Native.Nat.{ℕ, ◌+◌, ◌-◌, ◌≤◌, ◌<◌}
+use Prim.Native.Nat.{ℕ, ◌+◌, ◌≤◌, ◌<◌}
 use native.Mathlib.Omega.{arith}
 use lib.ListN.{length, get_or}
 use Rattle.layout.specs.Areas.{chosen_at, list_at}
-use Rattle.turn.proofs.Answer.{Answering, answering-start, answering-next, answering-done}
-use Rattle.std.proofs.Common.{rules}
+use Rattle.turn.proofs.Answer.{answering-start, answering-next, answering-done}
 use Rattle.turn.proofs.put_answer.Goals as goal
 use Rattle.turn.proofs.put_answer.Goals.{After-chosen_at-chosen, At-loop-i}
 

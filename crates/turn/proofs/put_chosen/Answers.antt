@@ -1,13 +1,12 @@
 -- `put_chosen` meets its contract. The loop's invariant: what is left of the net's edges, with their layers put from here, gives the whole answer.
 -- Assumes nothing.
 use mathlib.Core.Path.{◌≡◌}
-use Prim.Native.Nat.{ℕ, ◌+◌, ◌-◌, ◌*◌, ◌≤◌, ◌<◌}
+use Prim.Native.Nat.{ℕ, ◌+◌, ◌*◌, ◌≤◌, ◌<◌}
 use native.Mathlib.Omega.{arith}
 use lib.ListN.{length, get_or}
 use Rattle.layout.specs.Areas.{above_at}
 use Rattle.tracks.specs.OccupiedAll.{layers_at}
-use Rattle.turn.proofs.Answer.{Putting, putting-start, put-known, putting-next, putting-done}
-use Rattle.std.proofs.Common.{rules}
+use Rattle.turn.proofs.Answer.{putting-start, put-known, putting-next, putting-done}
 use Rattle.turn.proofs.put_chosen.Goals as goal
 use Rattle.turn.proofs.put_chosen.Goals.{After-chosen_at-chosen, At-loop-i}
 

@@ -1,12 +1,7 @@
 -- `put_chosen` meets its contract. The loop's invariant: what is left of the net's edges, with their layers put from here, gives the whole answer.
 -- Assumes nothing.
-use mathlib.Core.Path.{◌≡◌}
-use Prim.Native.Nat.{ℕ, ◌+◌, ◌-◌, ◌*◌, ◌≤◌, ◌<◌}
-use native.Mathlib.Omega.{arith}
-use lib.ListN.{length, get_or}
-use Rattle.layout.specs.Areas.{above_at}
-use Rattle.tracks.specs.OccupiedAll.{layers_at}
-use Rattle.turn.proofs.Answer.{Putting, putting-start, put-known, putting-next, putting-done}
+use Prim.Native.Nat.{◌-◌, ◌≤◌}
+use Rattle.turn.proofs.Answer.{Putting}
 use Rattle.turn.proofs.put_chosen.Given as goal
 
 abbrev pub invariant-loop-i : goal.invariant-loop-i

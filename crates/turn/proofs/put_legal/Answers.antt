@@ -1,15 +1,14 @@
 -- `put_legal` meets its contract. The loop's invariant: the masks of the places before i stand, and the rest is as it was.
 -- Assumes nothing.
 use mathlib.Core.Path.{◌≡◌, ap, ◌∙◌}
-use Prim.Native.Nat.{ℕ, ◌+◌, ◌-◌, ◌*◌, ◌≤◌}
+use Prim.Native.Nat.{ℕ, ◌+◌, ◌*◌, ◌≤◌}
 use native.Mathlib.Omega.{arith}
 use lib.ListN.{length, get_or}
 use Rattle.layout.specs.Areas.{above_at}
 use Rattle.tracks.specs.Legal.{legal_mask}
 use Rattle.turn.specs.Steps.{masks_at}
-use Rattle.turn.proofs.Masks.{Masking, masking-start, edge-known, still-small, masking-next, masking-done}
+use Rattle.turn.proofs.Masks.{masking-start, edge-known, still-small, masking-next, masking-done}
 use Rattle.flat.specs.Limited.{limit_at}
-use Rattle.std.proofs.Common.{rules}
 use Rattle.turn.proofs.put_legal.Goals as goal
 use Rattle.turn.proofs.put_legal.Goals.{After-struct_known-1}
 

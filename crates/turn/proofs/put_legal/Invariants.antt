@@ -1,13 +1,7 @@
 -- `put_legal` meets its contract. The loop's invariant: the masks of the places before i stand, and the rest is as it was.
 -- Assumes nothing.
-use mathlib.Core.Path.{◌≡◌, ap, ◌∙◌}
-use Prim.Native.Nat.{ℕ, ◌+◌, ◌-◌, ◌*◌, ◌≤◌}
-use native.Mathlib.Omega.{arith}
-use lib.ListN.{length, get_or}
-use Rattle.layout.specs.Areas.{above_at}
-use Rattle.tracks.specs.Legal.{legal_mask}
-use Rattle.turn.specs.Steps.{masks_at}
-use Rattle.turn.proofs.Masks.{Masking, masking-start, edge-known, still-small, masking-next, masking-done}
+use Prim.Native.Nat.{◌-◌, ◌≤◌}
+use Rattle.turn.proofs.Masks.{Masking}
 use Rattle.flat.specs.Limited.{limit_at}
 use Rattle.turn.proofs.put_legal.Given as goal
 

@@ -2,9 +2,8 @@
 -- Assumes nothing.
 use mathlib.Core.Bool.{Bool}
 use mathlib.Core.Path.{subst}
-use Rattle.turn.specs.Turn.{Turn, turn_net, Before, BeforeSome}
+use Rattle.turn.specs.Turn.{turn_net, Before, BeforeSome}
 use Rattle.turn.proofs.Reading.{net-there, lines_of, again-whole}
-use Rattle.std.proofs.Common.{rules}
 use Rattle.turn.proofs.read_again.Goals as goal
 
 pub read_cut-requires : goal.read_cut-requires

@@ -6,7 +6,6 @@ use lib.ListN.{length}
 use Rattle.walk.specs.Walked.{Walked}
 use Rattle.turn.specs.Turn.{Turn, turn_net, Before, NetAgain}
 use Rattle.turn.proofs.Reading.{net-walks, net-walked}
-use Rattle.std.proofs.Common.{rules}
 use Rattle.turn.proofs.read_and_walk.Goals as goal
 use Rattle.turn.proofs.read_and_walk.Goals.{After-read_again-low, After-walk}
 

@@ -6,7 +6,6 @@ use native.Mathlib.Omega.{arith}
 use Rattle.netread.specs.Net.{NetRead}
 use Rattle.turn.specs.Turn.{Turn, turn_net, Before}
 use Rattle.turn.proofs.Reading.{ring-at, listed-known, listed-few, again_cut}
-use Rattle.std.proofs.Common.{rules}
 use Rattle.turn.proofs.read_cut.Goals as goal
 use Rattle.turn.proofs.read_cut.Goals.{After-read_net-again}
 

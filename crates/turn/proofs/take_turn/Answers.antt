@@ -5,7 +5,6 @@ use native.Mathlib.Omega.{arith}
 use lib.ListN.{length}
 use Rattle.turn.specs.Turn.{Turn, turn_vias, TurnAt, NetWalked, NetChosen}
 use Rattle.flat.specs.Limited.{limit_at}
-use Rattle.std.proofs.Common.{rules}
 use Rattle.turn.proofs.take_turn.Goals as goal
 use Rattle.turn.proofs.take_turn.Goals.{After-choose_layers-vias, After-read_and_walk-n, After-write_layers}
 

@@ -6,7 +6,6 @@ use native.Mathlib.Omega.{arith}
 use lib.ListN.{length}
 use Rattle.layout.specs.Areas.{areas_end}
 use Rattle.turn.proofs.Writing.{tiles-fit, known, put-kept, takes, can-answer, answer_fits, net-placed, still-long}
-use Rattle.std.proofs.Common.{rules}
 use Rattle.turn.proofs.write_layers.Goals as goal
 use Rattle.turn.proofs.write_layers.Goals.{After-occupy_all, After-put_chosen}
 

@@ -3,7 +3,6 @@
 use mathlib.Core.Path.{◌≡◌}
 use Prim.Native.Nat.{min, max}
 use native.Mathlib.Omega.{arith}
-use Rattle.std.proofs.Common.{rules}
 use Rattle.union.proofs.link.Goals as goal
 
 pub returns-then-p-q : goal.returns-then-p-q

@@ -3,7 +3,6 @@
 use mathlib.Core.Path.{sym}
 use native.Mathlib.Omega.{arith}
 use Rattle.union.specs.Links.{parent-new, parent-old}
-use Rattle.std.proofs.Common.{rules}
 use Rattle.union.proofs.parent.Goals as goal
 
 pub overflow_cast-w : goal.overflow_cast-w

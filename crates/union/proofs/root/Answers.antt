@@ -2,7 +2,7 @@
 -- Assumes nothing.
 use mathlib.Core.Path.{sym, ◌∙◌}
 use native.Mathlib.Omega.{arith}
-use Rattle.union.proofs.Words.{Searched, searched-start, searched-again, searched-done}
+use Rattle.union.proofs.Words.{searched-start, searched-again, searched-done}
 use Rattle.std.proofs.Common.{rules}
 use Rattle.union.proofs.root.Goals as goal
 

@@ -1,8 +1,6 @@
 -- `union::root` meets its contract. The loop's invariant: tile t has the root of tile x, and no root changed. The measure is t.
 -- Assumes nothing.
-use mathlib.Core.Path.{sym, ◌∙◌}
-use native.Mathlib.Omega.{arith}
-use Rattle.union.proofs.Words.{Searched, searched-start, searched-again, searched-done}
+use Rattle.union.proofs.Words.{Searched}
 use Rattle.union.proofs.root.Given as goal
 
 abbrev pub invariant-loop-t : goal.invariant-loop-t

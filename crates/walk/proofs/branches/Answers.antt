@@ -1,13 +1,8 @@
 -- `branches` meets its contract. The loop's invariant: the ways from d on, done from here, give the whole answer.
 -- Assumes nothing.
-use mathlib.Core.Path.{◌≡◌, refl, ◌∙◌}
-use Prim.Native.Nat.{◌+◌, ◌-◌, ◌≤◌}
+use mathlib.Core.Path.{refl, ◌∙◌}
 use native.Mathlib.Omega.{arith}
-use lib.ListN.{length}
-use Rattle.layout.specs.Areas.{stops_at}
-use Rattle.walk.specs.Steps.{onward, four_ways, put_ways}
-use Rattle.walk.proofs.Turns.{step-long, Left, left-all, left-room, left-next, left-done}
-use Rattle.std.proofs.Common.{rules}
+use Rattle.walk.proofs.Turns.{step-long, left-all, left-room, left-next, left-done}
 use Rattle.walk.proofs.branches.Goals as goal
 
 pub loop-d-init : goal.loop-d-init

@@ -1,12 +1,11 @@
 -- `branches` meets its contract. The loop's invariant: the ways from d on, done from here, give the whole answer.
 -- Assumes nothing.
-use mathlib.Core.Path.{◌≡◌, refl, ◌∙◌}
+use mathlib.Core.Path.{◌≡◌}
 use Prim.Native.Nat.{◌+◌, ◌-◌, ◌≤◌}
-use native.Mathlib.Omega.{arith}
 use lib.ListN.{length}
 use Rattle.layout.specs.Areas.{stops_at}
 use Rattle.walk.specs.Steps.{onward, four_ways, put_ways}
-use Rattle.walk.proofs.Turns.{step-long, Left, left-all, left-room, left-next, left-done}
+use Rattle.walk.proofs.Turns.{Left}
 use Rattle.walk.proofs.branches.Given as goal
 
 abbrev pub invariant-loop-d : goal.invariant-loop-d

@@ -4,7 +4,6 @@ use mathlib.Core.Path.{◌≡◌, sym, ap, ◌∙◌}
 use Prim.Native.Nat.{ℕ, ◌+◌, ◌-◌, ◌*◌, ◌≤◌, ◌<◌}
 use native.Mathlib.Omega.{arith}
 use Rattle.marks.specs.Words.{bits_in, bits-new, bits-old, stamp_unit}
-use Rattle.std.proofs.Common.{rules}
 use Rattle.walk.proofs.latest_bits.Goals as goal
 
 -- a word at the stamp

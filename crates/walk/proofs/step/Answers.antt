@@ -5,11 +5,9 @@ use mathlib.Core.Path.{◌≡◌, sym, ◌∙◌}
 use Prim.Native.Nat.{◌+◌, ◌<◌}
 use native.Mathlib.Omega.{arith}
 use lib.ListN.{length-set}
-use borrow.Author.Tests.{not-true, not-false}
 use Rattle.layout.specs.Shapes.{WayRoom, way_of}
 use Rattle.marks.specs.Words.{bit_of}
 use Rattle.walk.proofs.Turns.{way-small, step-unused, step_back, step-on}
-use Rattle.std.proofs.Common.{rules}
 use Rattle.walk.proofs.step.Goals as goal
 use Rattle.walk.proofs.step.Goals.{Else-not-bit, Else-y-x}
 

@@ -7,7 +7,6 @@ use lib.ListN.{length, get_or, set, length-set}
 use Rattle.layout.specs.Areas.{engine_at}
 use Rattle.walk.specs.Steps.{branches_in, visited}
 use Rattle.walk.proofs.Visits.{visit-asked, visit-done}
-use Rattle.std.proofs.Common.{rules}
 use Rattle.walk.proofs.visit.Goals as goal
 use Rattle.walk.proofs.visit.Goals.{After-branches-end, After-slice_known-2-1, After-w-1}
 

@@ -1,16 +1,14 @@
 -- `walk` meets its contract. The loop's invariant: of the n places written, those below i are taken out, and what stands there is the walk up to there.
 -- The measure is what is left of the grid's tiles.
 -- Assumes nothing.
-use mathlib.Core.List.{List}
 use mathlib.Core.Path.{ap₂}
-use Prim.Native.Nat.{ℕ, ◌-◌, ◌<◌}
+use Prim.Native.Nat.{ℕ, ◌<◌}
 use native.Mathlib.Omega.{arith}
 use lib.ListN.{set, length-set}
 use Rattle.model.specs.Job.{Job, Net}
 use Rattle.walk.specs.Steps.{tile_in}
 use Rattle.walk.specs.Walked.{Walks, WalkReady}
-use Rattle.walk.proofs.Going.{Going, Begun, root_in, going_start, visit-tile, visit-ways, visit-room, visit-fits, going_next, going_end}
-use Rattle.std.proofs.Common.{rules}
+use Rattle.walk.proofs.Going.{Going, root_in, going_start, visit-tile, visit-ways, visit-room, visit-fits, going_next, going_end}
 use Rattle.walk.proofs.walk.Goals as goal
 use Rattle.walk.proofs.walk.Goals.{At-loop-i}
 

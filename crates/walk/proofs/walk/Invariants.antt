@@ -2,14 +2,9 @@
 -- The measure is what is left of the grid's tiles.
 -- Assumes nothing.
 use mathlib.Core.List.{List}
-use mathlib.Core.Path.{ap₂}
-use Prim.Native.Nat.{ℕ, ◌-◌, ◌<◌}
-use native.Mathlib.Omega.{arith}
-use lib.ListN.{set, length-set}
+use Prim.Native.Nat.{ℕ, ◌-◌}
 use Rattle.model.specs.Job.{Job, Net}
-use Rattle.walk.specs.Steps.{tile_in}
-use Rattle.walk.specs.Walked.{Walks, WalkReady}
-use Rattle.walk.proofs.Going.{Going, Begun, root_in, going_start, visit-tile, visit-ways, visit-room, visit-fits, going_next, going_end}
+use Rattle.walk.proofs.Going.{Going, Begun}
 use Rattle.walk.proofs.walk.Given as goal
 
 abbrev pub invariant-loop-i : goal.invariant-loop-i

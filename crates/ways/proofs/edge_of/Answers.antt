@@ -7,7 +7,6 @@ use native.Mathlib.Omega.{arith}
 use Rattle.layout.specs.Shapes.{way_of}
 use Rattle.scan.specs.Pins.{triple}
 use Rattle.ways.specs.Entry.{edge_of, Placed, placed}
-use Rattle.std.proofs.Common.{rules}
 use Rattle.ways.proofs.edge_of.Goals as goal
 use Rattle.ways.proofs.edge_of.Goals.{After-struct_known-1, After-tile_at-here, Start}
 

@@ -3,7 +3,6 @@
 use mathlib.Core.Path.{sym, ◌∙◌}
 use Prim.Native.Nat.{◌+◌}
 use Rattle.ways.proofs.Puts.{first-twice, first-fresh, first-known}
-use Rattle.std.proofs.Common.{rules}
 use Rattle.ways.proofs.mark_back.Goals as goal
 
 pub returns-in-Twice : goal.returns-in-Twice

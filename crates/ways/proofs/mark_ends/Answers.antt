@@ -5,7 +5,6 @@ use Prim.Native.Nat.{ℕ, ◌+◌}
 use native.Mathlib.Omega.{arith}
 use Rattle.marks.specs.declared.Put.TheVariants.{Fresh, Known}
 use Rattle.ways.proofs.Puts.{put-finds, first_small, first-fresh, first-known, ends-marked, ends-after, ends-count}
-use Rattle.std.proofs.Common.{rules}
 use Rattle.ways.proofs.mark_ends.Goals as goal
 
 pub overflow_add-result : goal.overflow_add-result

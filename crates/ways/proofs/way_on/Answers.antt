@@ -3,7 +3,6 @@
 use mathlib.Core.Path.{◌≡◌}
 use native.Mathlib.Nat.{div-le_self}
 use native.Mathlib.Omega.{arith}
-use Rattle.std.proofs.Common.{rules}
 use Rattle.ways.proofs.way_on.Goals as goal
 use Rattle.ways.proofs.way_on.Goals.{In_default}
 

@@ -1,7 +1,6 @@
 -- `Stack::new` meets its contract.
 -- Assumes nothing.
 use borrow.Author.Tests.{lt-ltb, le-ltb}
-use Rattle.std.proofs.Common.{rules}
 use Rattle.layout.proofs.Stack.new.Goals as goal
 
 pub returns-then-k-lt-LEAST : goal.returns-then-k-lt-LEAST
