@@ -122,7 +122,8 @@ fn print<O: Write>(to: &mut O, v: Told) -> io::Result<()> {
 
 // Reads the text behind a header into the front of t; returns its length.
 fn load<I: Read>(from: &mut I, h: &[u8; HEADER], t: &mut [u8]) -> io::Result<usize>
-    ensures { IfOk result (λ n. n ≤ length t.new) }
+    ensures ok { IfOk result (λ n. n ≤ length t.new) }
+    ensures t_len_unchanged { length t.new ≡ length t.old }
 {
     let bytes = least(field(h, BYTES), t.len());
     input::read_full(from, &mut t[..bytes])?;
