@@ -1,4 +1,4 @@
-//! Links the proved planner's static library, which `rt staticlib layerplan_c` writes.
+//! Links the proved planner's static library, which `tests/export/library` writes.
 
 fn main() {
     let folder = std::path::Path::new(env!("CARGO_MANIFEST_DIR")).join("../target/staticlib");

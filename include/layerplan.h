@@ -1,7 +1,7 @@
 /*
  * Layer planner for flat wiring plans: the two calls of the static library liblayerplan_c.a.
  *
- * `rt staticlib layerplan_c` proves the library and writes target/staticlib/liblayerplan_c.a (x86-64 Linux). A program
+ * `tests/export/library` proves the library and writes target/staticlib/liblayerplan_c.a (x86-64 Linux). A program
  * includes this header and links that one archive:
  *
  *     gcc -Iinclude program.c target/staticlib/liblayerplan_c.a

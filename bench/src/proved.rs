@@ -1,4 +1,4 @@
-//! The proved planner: the static library that `rt staticlib layerplan_c` writes. A slice goes as pointer and length.
+//! The proved planner: the static library that `tests/export/library` writes. A slice goes as pointer and length.
 
 use crate::{Lent, Returned};
 use second::plan::Entry;

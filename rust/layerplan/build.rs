@@ -1,4 +1,4 @@
-//! Finds the static library: in the folder that LAYERPLAN_LIB_DIR names, or else where `rt staticlib layerplan_c`
+//! Finds the static library: in the folder that LAYERPLAN_LIB_DIR names, or else where `tests/export/library`
 //! writes it, target/staticlib of this repository.
 
 use std::path::PathBuf;
@@ -11,7 +11,7 @@ fn main() {
     println!("cargo:rerun-if-changed={}", library.display());
     if !library.is_file() {
         eprintln!("There is no {}.", library.display());
-        eprintln!("`rt staticlib layerplan_c` writes it; LAYERPLAN_LIB_DIR names another folder that has it.");
+        eprintln!("`tests/export/library` writes it; LAYERPLAN_LIB_DIR names another folder that has it.");
         std::process::exit(1);
     }
     println!("cargo:rustc-link-search=native={}", folder.display());

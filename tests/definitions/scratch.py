@@ -38,14 +38,11 @@ SHAPES = {
 OWN = """-- the kept edges of each net in walk order, by edge number
 abbrev walks : Result Job → List (List ℕ)
 walks (refused n l) = []
-walks (found j p) = map (walk j) (j .nets)
+walks (found j p) = map (walk j) j.nets
 """
 
-LIBRARY = """use mathlib.Core.Path.{_≡_, refl}
-use mathlib.Core.List.{List, [], _∷_, _++_, map}
-use mathlib.Core.Option.{none, some}
-use Prim.Native.Nat.{ℕ}
-use lib.ListN.{length}
+LIBRARY = """use Rattle.std.specs.Prelude.{◌≡◌, refl, List, [], ◌∷◌, ◌++◌, map, ℕ, length}
+use Rattle.std.proofs.Math.Option.{none, some}
 """
 
 # Rows of one file: a file is checked as a whole, and a failing row is named alone.
@@ -120,26 +117,26 @@ def lemma(row, unfolding):
 
 def uses(specs):
     """The lines that bring in the definitions, and the names to unfold: all that the model marks `unfoldable`."""
-    lines = [f"use Rattle·model.specs.{module}.{{{', '.join(names)}}}\n" for module, names in NAMES.items()]
+    lines = [f"use Rattle.model.specs.{module}.{{{', '.join(names)}}}\n" for module, names in NAMES.items()]
     unfolding = []
     for path in sorted(specs.glob("*.antt")):
         names = re.findall(r"^\s*unfoldable pub (\S+)", path.read_text(), re.MULTILINE)
         if names:
             renamed = [f"{name} as {path.stem}-{name}" for name in names]
-            lines.append(f"use Rattle·model.specs.{path.stem}.{{{', '.join(renamed)}}}\n")
+            lines.append(f"use Rattle.model.specs.{path.stem}.{{{', '.join(renamed)}}}\n")
             unfolding += [f"{path.stem}-{name}" for name in names]
     return "".join(lines), " ".join(unfolding)
 
 
 def write_crate(model, folder, rows):
-    """Writes a repository with a copy of the model and a crate `rows` that states the rows."""
-    shutil.rmtree(folder / "crates", ignore_errors=True)
-    shutil.copytree(model, folder / "crates" / "model", ignore=shutil.ignore_patterns("must-fail"))
+    """Writes a repository with a copy of the model and a crate `rows` that states the rows; returns the folder of that crate."""
+    crate = folder / "crates" / "rows"
+    shutil.copytree(model, folder / "crates" / "model", ignore=shutil.ignore_patterns("must-fail", "out"))
     (folder / "crates.txt").write_text("model:\nrows: model\n")
-    specs, source = folder / "crates" / "rows" / "specs", folder / "crates" / "rows" / "src"
+    specs, source = crate / "specs", crate / "src"
     specs.mkdir(parents=True)
     source.mkdir()
-    (source / "lib.rt").write_text("// The rows stand in specs/.\n")
+    (source / "lib.rt").write_text("// The rows stand in specs/.\n#![tactic(auto)]\n")
     lines, unfolding = uses(model / "specs")
     modules = []
     for start in range(0, len(rows), ROWS_PER_FILE):
@@ -147,3 +144,4 @@ def write_crate(model, folder, rows):
         lemmas = [lemma(row, unfolding) for row in rows[start:start + ROWS_PER_FILE]]
         (specs / f"{modules[-1]}.antt").write_text("\n".join([LIBRARY + lines, OWN, *lemmas]))
     (specs / "Lib.antt").write_text("".join(f"pub mod {module}\n" for module in modules))
+    return crate

@@ -10,7 +10,7 @@
 //! all lengths of the lent slices. This crate only lends it safe slices. There is no heap behind it: the caller lends
 //! all storage, and [`Lengths`] tells how much. Lending too little is no error but a refusal.
 //!
-//! `rt staticlib layerplan_c` writes the library to `target/staticlib` of the repository, where the build looks for
+//! `tests/export/library` writes the library to `target/staticlib` of the repository, where the build looks for
 //! it; the environment variable `LAYERPLAN_LIB_DIR` names another folder. It is there for x86-64 Linux.
 //!
 //! ```
