@@ -26,7 +26,7 @@ module _ (c : After-low_in-low) where
 -- how many of its entries are dropped
 module _ (d : After-dropped_in) where
   above : 1 < d.low_in-low.result
-  above = d.if-low-gt1.true
+  above = omega arith
 
 -- its `edges` line
 module _ (c : After-index-at) where

@@ -43,7 +43,7 @@ module _ (c : After-wide-pins) where
   edges-is = ap₂ (λ (x y : ℕ). x - y) c.entries_in.ensures.0 c.dropped_in-dropped.ensures.0
 
   pins-is : pins ≡ get_or c.args.table.now (tiles_column c.args.i) 0
-  pins-is = c.wide-pins.ensures.0 ∙ ap (λ (k : ℕ). get_or c.args.table.now k 0) c.tiles_column.ensures.value
+  pins-is = c.wide-pins.ensures.0 ∙ ap (λ (k : ℕ). get_or c.args.table.now k 0) (omega arith)
 
   -- x gives the density term of each such job
   abbrev Weighs : Density → Type 0
@@ -77,7 +77,7 @@ weighs-all c lent j ready h =
     c.weighed_density-x.ensures j (net_of j (suc y.i))
     (line_at y.s.now y.g y.a y.w.now y.table.now lent j ready y.i h (p (goal.at.After-weighed_density-x c).After-wide-pins) (p-is (goal.at.After-weighed_density-x c).After-wide-pins))
     (line-all y.s.now y.g y.a y.w.now y.table.now lent j ready y.i h c.requires.shaped
-    (omega (arith, c.if-dropped-ne0.false, c.dropped_in-dropped.ensures.0)))
+    (omega (arith, c.dropped_in-dropped.ensures.0)))
     ready.demands ready.capacities
 
 -- the row has a dropped count at most its entries
@@ -90,7 +90,7 @@ overflow_sub-edges c =
 
 pub cut_density-x-requires : goal.cut_density-x-requires
 cut_density-x-requires c =
-    record { shaped = c.requires.shaped; g_in_bounds = c.requires.g_in_bounds; some_net = (o (goal.at.cut_density-x-requires c).After-wide-pins, omega (arith, c.if-dropped-ne0.true, c.dropped_in-dropped.ensures.0)) }
+    record { shaped = c.requires.shaped; g_in_bounds = c.requires.g_in_bounds; some_net = (o (goal.at.cut_density-x-requires c).After-wide-pins, omega (arith, c.dropped_in-dropped.ensures.0)) }
 
 pub score-requires : goal.score-requires
 score-requires c =
