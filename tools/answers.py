@@ -89,6 +89,27 @@ def parts(text):
     return [it.strip() for it in out if it.strip()]
 
 
+def let_end(text, i):
+    """The place of the `in` that ends the value, begun at i, of a `let`."""
+    deep = 0
+    while i < len(text):
+        if text[i] in "([{":
+            i = closing(text, i)
+            continue
+        w = re.compile(ID).match(text, i)
+        if w:
+            if w[0] == "let":
+                deep += 1
+            elif w[0] == "in":
+                if deep == 0:
+                    break
+                deep -= 1
+            i = w.end()
+            continue
+        i += 1
+    return i
+
+
 def alone(text, i, k):
     """Whether text[i:k] is a whole entry of a tactic's list."""
     after = text[k:].lstrip()[:1]
@@ -483,23 +504,7 @@ class Turner:
         m = re.compile(rf"let\s+({ID})(\s*:[^=]*?)?\s+=\s+", re.S).match(text, i)
         if not m:
             return None
-        # the end of E: the `in` of this level
-        j, deep = m.end(), 0
-        while j < len(text):
-            if text[j] in "([{":
-                j = closing(text, j)
-                continue
-            w = re.compile(ID).match(text, j)
-            if w:
-                if w[0] == "let":
-                    deep += 1
-                elif w[0] == "in":
-                    if deep == 0:
-                        break
-                    deep -= 1
-                j = w.end()
-                continue
-            j += 1
+        j = let_end(text, m.end())
         value, rest = text[m.end() : j].strip(), text[j + 2 :]
         got = self.place_of(value, scope)
         if got is not None and (not m[2] or re.match(r"\s*:\s*tie\.", m[2])):
@@ -751,22 +756,7 @@ def split_lets(term):
         m = re.compile(r"\s*let\b").match(term, i)
         if not m:
             return term[:i] + (" " if i and not term[:i].endswith((" ", "\n")) else ""), term[i:]
-        j, deep = m.end(), 0
-        while j < len(term):
-            if term[j] in "([{":
-                j = closing(term, j)
-                continue
-            w = re.compile(ID).match(term, j)
-            if w:
-                if w[0] == "let":
-                    deep += 1
-                elif w[0] == "in":
-                    if deep == 0:
-                        break
-                    deep -= 1
-                j = w.end()
-                continue
-            j += 1
+        j = let_end(term, m.end())
         i = j + 2
 
 

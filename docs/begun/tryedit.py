@@ -1,7 +1,7 @@
-import sys,os,subprocess,shutil
+import sys,os,subprocess,shutil,tempfile
 repo,crate,names=sys.argv[1],sys.argv[2],sys.argv[3:]
 for n in names:
-    d='/tmp/w/edit'
+    d=os.path.join(tempfile.gettempdir(),'edit')
     shutil.rmtree(d,ignore_errors=True)
     subprocess.run(['cp','-r',repo,d])
     f=None; olds=[]
