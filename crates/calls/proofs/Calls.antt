@@ -1,5 +1,6 @@
 -- From what the steps of a call say to what the definitions say of the call.
 -- Assumes nothing.
+use Rattle.std.specs.Prelude.{Some, None, Ok, Err, Result as Outcome}
 use mathlib.Core.List.{List, ◌++◌}
 use mathlib.Core.Option.{Option, some, none}
 use mathlib.Core.Path.{◌≡◌, refl, sym, ap, ap₂, ◌∙◌, subst}
@@ -21,18 +22,14 @@ use Rattle.model.specs.Score.{order}
 use Rattle.net.specs.Table.{Table, mark-told, table-set, beside-tiles}
 use Rattle.planning.specs.Closing.{Turned, ToClose, ToPrint, PlanMade, PlanClosed, PrintClosed}
 use Rattle.planning.specs.Opening.{OpenFound, OpenTold, nets_of}
-use Rattle.planning.specs.declared.Opened.{Opened}
-use Rattle.planning.specs.declared.Opened.TheVariants.{Job as Read-as, Refused}
-use Rattle.planning.specs.declared.Planned.{Planned}
-use Rattle.planning.specs.declared.Printed.{Printed}
 use Rattle.planning.specs.declared.Totals.{Totals}
 use Rattle.reader.specs.Whole.{lent_by}
-use Rattle.reader.specs.declared.PrintRoom.TheVariants.{Absent, Bytes}
 use Rattle.sort.specs.Entries.{order_of, no_entry, listed}
 use Rattle.sort.specs.Placing.{order-count, sorted-order, turns-listed}
 use Rattle.sort.specs.Sorted.{Arranged}
 use Rattle.sort.specs.declared.Entry.{Entry}
 use Rattle.text.specs.Refusals.{number_of, line_of}
+use Rattle.text.specs.declared.Refusal.{Refusal}
 use Rattle.theory.specs.links.Directives.{low-inside}
 use Rattle.theory.proofs.links.Meets.{plan-call, print-call, plan-total-is, plan-maximum-both, plan-meets-demand3, print-meets-demand3}
 use Rattle.theory.specs.links.Reading.{Accepted, accepted}
@@ -55,9 +52,9 @@ lows-listed es table (suc k) i =
 
 module _ (s : List ℕ) (lent : Lent) (w table : List ℕ) (ys os : List Entry) where
   -- what is asked where it is made
-  pub arrange-asked : (o : Opened) → lent.order ≡ length ys → OpenTold s lent w table o → (nets_of o ≤ most_nets) × (nets_of o ≤ length ys)
-  arrange-asked (Refused r) e k = (omega arith, omega arith)
-  arrange-asked (Read-as h) e k =
+  pub arrange-asked : (o : Outcome Head Refusal) → lent.order ≡ length ys → OpenTold s lent w table o → (nets_of o ≤ most_nets) × (nets_of o ≤ length ys)
+  arrange-asked (Err r) e k = (omega arith, omega arith)
+  arrange-asked (Ok h) e k =
       let acc = accepted lent s k.job k.place k.is in
       (omega (arith, k.given.count, acc.count_of_nets), omega (arith, k.given.count, acc.order_fits))
 
@@ -65,7 +62,7 @@ module _ (s : List ℕ) (lent : Lent) (w table : List ℕ) (ys os : List Entry) 
     -- of a job
     module _ (h : Head) (k : OpenFound s lent w table h) (table' : List ℕ) (made : Arranged h.nets ys os table table') where
       room : h.nets ≤ length ys
-      room = (arrange-asked (Read-as h) e k).1
+      room = (arrange-asked (Ok h) e k).1
 
       lows-told : (i : ℕ) → i < net_count k.job → max 1 (low_in table i) ≡ low_of (net_of k.job (suc i))
       lows-told i b = ap (max 1) (k.scored.lows i b) ∙ mark-told (net_of k.job (suc i)).low (low-inside k.job lent k.given.accepted i b).0
@@ -85,18 +82,18 @@ module _ (s : List ℕ) (lent : Lent) (w table : List ℕ) (ys os : List Entry) 
       }
 
     -- what is asked where the nets are placed
-    pub close-asked : (o : Opened) (table' : List ℕ) (size : ℕ) → size ≡ lent.answer → OpenTold s lent w table o → Arranged (nets_of o) ys os table table' → ToClose s w table' size o
-    close-asked (Refused r) table' size l k made = tt
-    close-asked (Read-as h) table' size l k made = record { lent = lent; job = k.job; turned = turned h k table' made size (omega (arith, l, k.given.accepted.answer_fits)) }
+    pub close-asked : (o : Outcome Head Refusal) (table' : List ℕ) (size : ℕ) → size ≡ lent.answer → OpenTold s lent w table o → Arranged (nets_of o) ys os table table' → ToClose s w table' size o
+    close-asked (Err r) table' size l k made = tt
+    close-asked (Ok h) table' size l k made = record { lent = lent; job = k.job; turned = turned h k table' made size (omega (arith, l, k.given.accepted.answer_fits)) }
 
     print-room : (h : Head) (k : OpenFound s lent w table h) (bytes : ℕ) → lent.print ≡ some bytes → print_need (net_count k.job) (entry_count k.job) ≤ bytes
     print-room h k bytes l =
         leb→le (print_need (net_count k.job) (entry_count k.job)) bytes
         (subst (λ (o : Option ℕ). T (print_fits (print_need (net_count k.job) (entry_count k.job)) o)) l k.given.accepted.printed_fits)
 
-    pub print-asked : (o : Opened) (table' : List ℕ) (size bytes : ℕ) → size ≡ lent.answer → lent.print ≡ some bytes → OpenTold s lent w table o → Arranged (nets_of o) ys os table table' → ToPrint s w table' size bytes o
-    print-asked (Refused r) table' size bytes l p k made = tt
-    print-asked (Read-as h) table' size bytes l p k made = record {
+    pub print-asked : (o : Outcome Head Refusal) (table' : List ℕ) (size bytes : ℕ) → size ≡ lent.answer → lent.print ≡ some bytes → OpenTold s lent w table o → Arranged (nets_of o) ys os table table' → ToPrint s w table' size bytes o
+    print-asked (Err r) table' size bytes l p k made = tt
+    print-asked (Ok h) table' size bytes l p k made = record {
       lent = lent;
       job = k.job;
       turned = turned h k table' made size (omega (arith, l, k.given.accepted.answer_fits));
@@ -117,21 +114,21 @@ answer-made lent j acc answer answer' table' t made =
 
 module _ (s work work₁ work' : List ℕ) (ys os : List Entry) (table table' answer answer' : List ℕ) (long : length os ≡ length ys) (wide : table_size ≤ length table) (again : work' ≡ replicate (length work) 0) where
   abbrev lent_plan : Lent
-  lent_plan = lent_by (length work) (length ys) (length answer) Absent
+  lent_plan = lent_by (length work) (length ys) (length answer) None
 
-  lent-plan : plan_lent (buffers_of work ys answer) ≡ lent_by (length work) (length ys) (length answer) Absent
+  lent-plan : plan_lent (buffers_of work ys answer) ≡ lent_by (length work) (length ys) (length answer) None
   lent-plan = ap {B = Lent} (λ y. record { working = length work; order = y; answer = length answer; print = none }) (order-count ys)
 
   call-refused : (n l : ℕ) → read (plan_lent (buffers_of work ys answer)) s ≡ refused n l → plan_call s (buffers_of work ys answer) ≡ planned_by (refusal n l) (buffers_of work ys answer)
   unfolding outcome
   call-refused n l e = ap (λ (r : Result Job). planned_by (outcome_of r) (buffers_of work ys answer)) e
 
-  plan-equals : (o : Opened) (p : Planned) → OpenTold s (lent_by (length work) (length ys) (length answer) Absent) work₁ table o → Arranged (nets_of o) ys os table table' → PlanClosed s work₁ table' answer answer' o p
+  plan-equals : (o : Outcome Head Refusal) (p : Outcome Totals Refusal) → OpenTold s (lent_by (length work) (length ys) (length answer) None) work₁ table o → Arranged (nets_of o) ys os table table' → PlanClosed s work₁ table' answer answer' o p
       → record { returned = returned_of p; buffers = buffers_of work' os answer' } ≡ plan_call s (buffers_of work ys answer)
-  plan-equals (Refused r) p k made closed =
+  plan-equals (Err r) p k made closed =
       (λ i. record { returned = returned_of (closed.0 i); buffers = record { working = again i; order = order_of (none-arranged ys os table table' made i); answer = closed.1 i } })
       ∙ sym (call-refused (number_of r) (line_of r) (ap (λ (x : Lent). read x s) lent-plan ∙ k))
-  plan-equals (Read-as h) p k made closed =
+  plan-equals (Ok h) p k made closed =
       let j = k.job in
       let acc = k.given.accepted in
       let turn = turned s lent_plan work₁ table ys os long refl wide h k table' made (length answer) (omega (arith, acc.answer_fits)) in
@@ -140,14 +137,14 @@ module _ (s work work₁ work' : List ℕ) (ys os : List Entry) (table table' an
       let most : closed.totals.maximum ≡ max_overflow j (plan j) = done.maximum_is ∙ sym (plan-maximum-both lent_plan s j k.place k.is) in
       let entries = order-made s lent_plan work₁ table ys os long refl wide h k table' made in
       let layers = answer-made lent_plan j acc answer answer' closed.table' closed.totals done in
-      ap {B = PlannedBy} (λ (x : Planned). record { returned = returned_of x; buffers = buffers_of work' os answer' }) closed.is
+      ap {B = PlannedBy} (λ (x : Outcome Totals Refusal). record { returned = returned_of x; buffers = buffers_of work' os answer' }) closed.is
       ∙ (λ i. record {
         returned = record { number = 0; line = 0; vias = done.placed.vias_are i; total = total i; maximum = most i };
         buffers = record { working = again i; order = entries i; answer = layers i };
       })
       ∙ sym (plan-call s (buffers_of work ys answer) j k.place (ap (λ (x : Lent). read x s) lent-plan ∙ k.is))
 
-  pub plan-whole : (o : Opened) (p : Planned) → OpenTold s (lent_by (length work) (length ys) (length answer) Absent) work₁ table o → Arranged (nets_of o) ys os table table' → PlanClosed s work₁ table' answer answer' o p
+  pub plan-whole : (o : Outcome Head Refusal) (p : Outcome Totals Refusal) → OpenTold s (lent_by (length work) (length ys) (length answer) None) work₁ table o → Arranged (nets_of o) ys os table table' → PlanClosed s work₁ table' answer answer' o p
       → (record { returned = returned_of p; buffers = buffers_of work' os answer' } ≡ plan_call s (buffers_of work ys answer))
       × ((j : Job) (q : Place) → read (plan_lent (buffers_of work ys answer)) s ≡ found j q → Met j (returned_of p) (buffers_of work' os answer'))
   plan-whole o p k made closed = (
@@ -159,19 +156,19 @@ module _ (s work work₁ work' : List ℕ) (ys os : List Entry) (table table' an
 
 module _ (s work work₁ work' : List ℕ) (ys os : List Entry) (table table' answer answer' out out' : List ℕ) (long : length os ≡ length ys) (wide : table_size ≤ length table) (again : work' ≡ replicate (length work) 0) where
   abbrev lent_all : Lent
-  lent_all = lent_by (length work) (length ys) (length answer) (Bytes (length out))
+  lent_all = lent_by (length work) (length ys) (length answer) (Some (length out))
 
-  lent-print : print_lent (buffers_of work ys answer) out ≡ lent_by (length work) (length ys) (length answer) (Bytes (length out))
+  lent-print : print_lent (buffers_of work ys answer) out ≡ lent_by (length work) (length ys) (length answer) (Some (length out))
   lent-print = ap {B = Lent} (λ y. record { working = length work; order = y; answer = length answer; print = some (length out) }) (order-count ys)
 
   printing-refused : (n l : ℕ) → read (print_lent (buffers_of work ys answer) out) s ≡ refused n l → print_call s (buffers_of work ys answer) out ≡ printed_by (refusal n l) (buffers_of work ys answer) out
   unfolding outcome
   printing-refused n l e = ap (λ (r : Result Job). printed_by (outcome_of r) (buffers_of work ys answer) out) e
 
-  print-equals : (o : Opened) (p : Printed) → OpenTold s (lent_by (length work) (length ys) (length answer) (Bytes (length out))) work₁ table o → Arranged (nets_of o) ys os table table'
+  print-equals : (o : Outcome Head Refusal) (p : Outcome (Totals × ℕ) Refusal) → OpenTold s (lent_by (length work) (length ys) (length answer) (Some (length out))) work₁ table o → Arranged (nets_of o) ys os table table'
       → PrintClosed s work₁ table' answer answer' out out' o p
       → record { returned = returned_of (plan_of p); length = size_of p; buffers = buffers_of work' os answer'; print = out' } ≡ print_call s (buffers_of work ys answer) out
-  print-equals (Refused r) p k made closed =
+  print-equals (Err r) p k made closed =
       (λ i. record {
         returned = returned_of (plan_of (closed.0 i));
         length = size_of (closed.0 i);
@@ -179,7 +176,7 @@ module _ (s work work₁ work' : List ℕ) (ys os : List Entry) (table table' an
         print = closed.1.1 i;
       })
       ∙ sym (printing-refused (number_of r) (line_of r) (ap (λ (x : Lent). read x s) lent-print ∙ k))
-  print-equals (Read-as h) p k made closed =
+  print-equals (Ok h) p k made closed =
       let j = k.job in
       let acc = k.given.accepted in
       let turn = turned s lent_all work₁ table ys os long refl wide h k table' made (length answer) (omega (arith, acc.answer_fits)) in
@@ -189,7 +186,7 @@ module _ (s work work₁ work' : List ℕ) (ys os : List Entry) (table table' an
       let most : closed.totals.maximum ≡ max_overflow j (plan j) = done.maximum_is ∙ sym (plan-maximum-both lent_all s j k.place k.is) in
       let entries = order-made s lent_all work₁ table ys os long refl wide h k table' made in
       let layers = answer-made lent_all j acc answer answer' closed.table' closed.totals done in
-      ap {B = PrintedBy} (λ (x : Printed). record { returned = returned_of (plan_of x); length = size_of x; buffers = buffers_of work' os answer'; print = out' }) closed.is
+      ap {B = PrintedBy} (λ (x : Outcome (Totals × ℕ) Refusal). record { returned = returned_of (plan_of x); length = size_of x; buffers = buffers_of work' os answer'; print = out' }) closed.is
       ∙ (λ i. record {
         returned = record { number = 0; line = 0; vias = done.placed.vias_are i; total = total i; maximum = most i };
         length = told.size_is i;
@@ -198,7 +195,7 @@ module _ (s work work₁ work' : List ℕ) (ys os : List Entry) (table table' an
       })
       ∙ sym (print-call s (buffers_of work ys answer) out j k.place (ap (λ (x : Lent). read x s) lent-print ∙ k.is))
 
-  pub print-whole : (o : Opened) (p : Printed) → OpenTold s (lent_by (length work) (length ys) (length answer) (Bytes (length out))) work₁ table o → Arranged (nets_of o) ys os table table'
+  pub print-whole : (o : Outcome Head Refusal) (p : Outcome (Totals × ℕ) Refusal) → OpenTold s (lent_by (length work) (length ys) (length answer) (Some (length out))) work₁ table o → Arranged (nets_of o) ys os table table'
       → PrintClosed s work₁ table' answer answer' out out' o p
       → (record { returned = returned_of (plan_of p); length = size_of p; buffers = buffers_of work' os answer'; print = out' } ≡ print_call s (buffers_of work ys answer) out)
       × ((j : Job) (q : Place) → read (print_lent (buffers_of work ys answer) out) s ≡ found j q → Met j (returned_of (plan_of p)) (buffers_of work' os answer'))

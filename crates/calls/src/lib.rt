@@ -9,34 +9,51 @@ ghost use Rattle.model.specs.Job.{Job};
 ghost use Rattle.model.specs.Read.{Place, found, read};
 ghost use Rattle.calls.specs.Calls.{buffers_of, returned_of, plan_of, size_of};
 
-use planning::{Planned, Printed};
+use planning::Totals;
+use reader::Lists;
 use sort::Entry;
+use text::Refusal;
 
 // "Plan takes the text."
-pub fn plan(text: &[u8], work: &mut [u32], order: &mut [Entry], answer: &mut [u8]) -> Planned
+pub fn plan(
+    text: &[u8],
+    work: &mut [u32],
+    order: &mut [Entry],
+    answer: &mut [u8],
+) -> Result<Totals, Refusal>
     ensures answer_after { record { returned = returned_of result; buffers = buffers_of work.new order.new answer.new } ≡ plan_call text.now (buffers_of work.old order.old answer.old) }
     ensures met { (j : Job) (p : Place) → read (plan_lent (buffers_of work.old order.old answer.old)) text.now ≡ found j p → Met j (returned_of result) (buffers_of work.new order.new answer.new) }
 {
     let mut table = [0u32; layout::TABLE];
-    let job = planning::open_plan(text, work, &mut table, order.len(), answer.len());
+    let lists = Lists {
+        order: order.len(),
+        answer: answer.len(),
+        print: None,
+    };
+    let job = planning::open(text, work, &mut table, lists);
     let nets = planning::nets_of(job);
     sort::arrange(order, &mut table, nets);
     planning::close_plan(text, work, &mut table, answer, job)
 }
 
-// "Print does the same and also writes the text below."
+// "Print does the same and also writes the text below." Beside the totals it returns the length of that text.
 pub fn print(
     text: &[u8],
     work: &mut [u32],
     order: &mut [Entry],
     answer: &mut [u8],
     out: &mut [u8],
-) -> Printed
+) -> Result<(Totals, usize), Refusal>
     ensures out_after { record { returned = returned_of (plan_of result); length = size_of result; buffers = buffers_of work.new order.new answer.new; print = out.new } ≡ print_call text.now (buffers_of work.old order.old answer.old) out.old }
     ensures met { (j : Job) (p : Place) → read (print_lent (buffers_of work.old order.old answer.old) out.old) text.now ≡ found j p → Met j (returned_of (plan_of result)) (buffers_of work.new order.new answer.new) }
 {
     let mut table = [0u32; layout::TABLE];
-    let job = planning::open_print(text, work, &mut table, order.len(), answer.len(), out.len());
+    let lists = Lists {
+        order: order.len(),
+        answer: answer.len(),
+        print: Some(out.len()),
+    };
+    let job = planning::open(text, work, &mut table, lists);
     let nets = planning::nets_of(job);
     sort::arrange(order, &mut table, nets);
     planning::close_print(text, work, &mut table, answer, out, job)

@@ -8,11 +8,13 @@ use native.Mathlib.Nat.{suc-mul}
 use native.Mathlib.Omega.{arith}
 use lib.Dec.{leb}
 use lib.ListN.{length}
+use Rattle.std.specs.Prelude.{Some, None, Result}
 use Rattle.model.specs.Limits.{most_capacity}
 use Rattle.model.specs.Read.{refused}
 use Rattle.text.specs.Entries.{ended_at}
-use Rattle.text.specs.declared.Numeral.TheVariants.{Value, Malformed}
-use Rattle.lines.specs.declared.Listed.{Listed}
+use Rattle.text.specs.declared.Cursor.{Cursor}
+use Rattle.text.specs.declared.Refusal.{Refusal}
+use Rattle.text.specs.declared.Numeral.{Numeral}
 use Rattle.lines.specs.Digits.{ended-within}
 use Rattle.lines.specs.Told.{list_in}
 use Rattle.lines.specs.Keyed.{ender}
@@ -51,23 +53,23 @@ module _ (s : List ℕ) (k : ℕ) where
       one_less : suc r.left - 1 ≡ suc (r.left - 1)
       one_less = omega arith
 
-      pub one-bad : (line : ℕ) → ended_at s r.at 44 ≡ Malformed → onward k line s w r ≡ refused 2 line
+      pub one-bad : (line : ℕ) → ended_at s r.at 44 ≡ None → onward k line s w r ≡ refused 2 line
       one-bad line e = ap (finish k line r.inside w r.to) (list-none s (suc r.left) r.at (omega arith) (ap (ended_at s r.at) before ∙ e))
 
-      module _ (v next : ℕ) (inside : Bool) (w' : List ℕ) (e : ended_at s r.at 44 ≡ Value v next) (f : inside ≡ (r.inside && leb v most_capacity))
-          (g : w' ≡ kept w r.to v) where
-        pub one_more : Ran s k w r w' (record { at = next; to = r.to + k; left = r.left - 1; inside = inside })
+      module _ (n : Numeral) (inside : Bool) (w' : List ℕ) (e : ended_at s r.at 44 ≡ Some n) (f : inside ≡ (r.inside && leb n.value most_capacity))
+          (g : w' ≡ kept w r.to n.value) where
+        pub one_more : Ran s k w r w' (record { at = n.next; to = r.to + k; left = r.left - 1; inside = inside })
         one_more = record {
           stands = record {
-            place = ended-within s r.at 44 v next (omega arith) e;
+            place = ended-within s r.at 44 n (omega arith) (sym e);
             room =
-                subst (λ (n : ℕ). Room k (r.to + k) n (length w')) one_less (room-kept k r.to (suc r.left) v w w' g (omega arith) here.room);
+                subst (λ (m : ℕ). Room k (r.to + k) m (length w')) one_less (room-kept k r.to (suc r.left) n.value w w' g (omega arith) here.room);
           };
-          long = ap length g ∙ kept-length w r.to v;
+          long = ap length g ∙ kept-length w r.to n.value;
           fewer = omega arith;
           same = λ line.
-              turn k line s (suc r.left) r.at v next r.inside inside w w' r.to (omega arith) (ap (ended_at s r.at) before ∙ e) f g
-              ∙ ap (λ (n : ℕ). finish k line inside w' (r.to + k) (list_at n s next)) one_less;
+              turn k line s (suc r.left) r.at n.value n.next r.inside inside w w' r.to (omega arith) (ap (ended_at s r.at) before ∙ e) f g
+              ∙ ap (λ (m : ℕ). finish k line inside w' (r.to + k) (list_at m s n.next)) one_less;
         }
 
     -- the last: the number v with byte 10 behind it
@@ -75,18 +77,18 @@ module _ (s : List ℕ) (k : ℕ) where
       behind : ender (suc r.left - 1) ≡ 10
       behind = ender-last (suc r.left) (omega arith)
 
-      pub last-bad : ended_at s r.at 10 ≡ Malformed → onward k line s w r ≡ refused 2 line
+      pub last-bad : ended_at s r.at 10 ≡ None → onward k line s w r ≡ refused 2 line
       last-bad e = ap (finish k line r.inside w r.to) (list-none s (suc r.left) r.at (omega arith) (ap (ended_at s r.at) behind ∙ e))
 
-      module _ (v next : ℕ) (inside : Bool) (w' : List ℕ) (e : ended_at s r.at 10 ≡ Value v next) (f : inside ≡ (r.inside && leb v most_capacity))
-          (g : w' ≡ kept w r.to v) (x : Listed) (told : x ≡ answer_of next line inside) where
+      module _ (n : Numeral) (inside : Bool) (w' : List ℕ) (e : ended_at s r.at 10 ≡ Some n) (f : inside ≡ (r.inside && leb n.value most_capacity))
+          (g : w' ≡ kept w r.to n.value) (x : Result Cursor Refusal) (told : x ≡ answer_of n.next line inside) where
         pub last_told : list_told s w' x ≡ onward k line s w r
         last_told =
-            answer-told line s next inside x told k w' (r.to + k) (suc r.left - 1) (omega arith)
-            ∙ sym (turn k line s (suc r.left) r.at v next r.inside inside w w' r.to (omega arith) (ap (ended_at s r.at) behind ∙ e) f g)
+            answer-told line s n.next inside x told k w' (r.to + k) (suc r.left - 1) (omega arith)
+            ∙ sym (turn k line s (suc r.left) r.at n.value n.next r.inside inside w w' r.to (omega arith) (ap (ended_at s r.at) behind ∙ e) f g)
 
         pub last_in : list_in (length s) line x
-        last_in = answer-in line s next inside x told (ended-within s r.at 10 v next (omega arith) e)
+        last_in = answer-in line s n.next inside x told (ended-within s r.at 10 n (omega arith) (sym e))
 
 -- ---- the first
 

@@ -11,6 +11,7 @@ use native.Mathlib.Omega.{arith}
 use borrow.Author.Tests.{eq-eqb, ne_eqb}
 use lib.Dec.{T, leb, eqb, eqb→eq}
 use lib.ListN.{length, get_or}
+use Rattle.std.specs.Prelude.{Ok, Err, Result as Outcome}
 use Rattle.model.specs.Limits.{most_capacity}
 use Rattle.model.specs.Lists.{all}
 use Rattle.model.specs.Read.{Place, Result, refused, found, next, form, need}
@@ -21,8 +22,6 @@ use Rattle.text.specs.declared.Cursor.{Cursor}
 use Rattle.text.specs.declared.Refusal.{Refusal}
 use Rattle.lines.specs.Keyed.{line_by}
 use Rattle.lines.specs.Told.{mapped, refused_by}
-use Rattle.lines.specs.declared.Listed.{Listed}
-use Rattle.lines.specs.declared.Listed.TheVariants.{Next, Refused as Unlisted}
 use Rattle.capacities.specs.Capacities.{column}
 use Rattle.capacities.specs.Reads.{capacity_line_by, zeros, judged_by, judged_line_by}
 use Rattle.capacities.specs.Spread.{spread, Room}
@@ -72,10 +71,10 @@ caps-give-by key size p =
     (λ u4 p4 t4. (eqb→eq (length cs) size t3, t4)))))
 
 -- the code has read and stored the line: its answer is r, and the working numbers are x
-module _ (s x : List ℕ) (k : ℕ) (w : List ℕ) (to size : ℕ) (room : Room k to size (length w)) (key : List ℕ) (along : Bool) (p : Place) (r : Listed)
+module _ (s x : List ℕ) (k : ℕ) (w : List ℕ) (to size : ℕ) (room : Room k to size (length w)) (key : List ℕ) (along : Bool) (p : Place) (r : Outcome Cursor Refusal)
     (e : list_told s x r ≡ mapped (spread k w to) (capacity_line_by key size p)) where
   -- a line that is refused by itself stays so
-  pub judged-refused : (z : Refusal) → r ≡ Unlisted z → refused_by z ≡ mapped (spread k w to) (judged_line_by key size along p)
+  pub judged-refused : (z : Refusal) → r ≡ Err z → refused_by z ≡ mapped (spread k w to) (judged_line_by key size along p)
   unfolding judged_line_by
   judged-refused z f = go (capacity_line_by key size p) (sym (ap (list_told s x) f) ∙ e)
     where
@@ -84,7 +83,7 @@ module _ (s x : List ℕ) (k : ℕ) (w : List ℕ) (to size : ℕ) (room : Room 
       go (found cs q) h = absurd (let y : ◌≡◌ {A = ℕ} 0 1 = cc in omega arith)
 
   -- and else the numbers stand in their column
-  module _ (d : Cursor) (f : r ≡ Next d) where
+  module _ (d : Cursor) (f : r ≡ Ok d) where
     stored : (R : Result (List ℕ)) → Gives (CapsOk size) R → found x (place_of s d) ≡ mapped (spread k w to) R → (b : Bool) → (along || zeros (column k x to size)) ≡ b
         → mapped (spread k w to) (next R (judged_by along)) ≡ cond b (found x (place_of s d)) (refused 12 d.line)
     stored (refused n l) g h b t = absurd (let y : ◌≡◌ {A = ℕ} 0 1 = cc in omega arith)

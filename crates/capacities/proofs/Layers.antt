@@ -8,6 +8,7 @@ use Prim.Native.Nat.{ℕ, suc, ◌+◌, ◌-◌, ◌*◌, ◌≤◌, ◌<◌}
 use native.Mathlib.Nat.{add-mul, mul_comm, mul-le-mul_right}
 use native.Mathlib.Omega.{arith}
 use lib.ListN.{length}
+use Rattle.std.specs.Prelude.{Ok, Err, Result as Outcome}
 use Rattle.model.specs.Grid.{east_count, north_count}
 use Rattle.model.specs.Job.{runs}
 use Rattle.model.specs.Read.{Place, Result, refused, found, next, capacity_line, capacity_lines}
@@ -17,11 +18,9 @@ use Rattle.text.specs.declared.Cursor.{Cursor}
 use Rattle.text.specs.declared.Refusal.{Refusal}
 use Rattle.layout.specs.Dirs.{dirs_of}
 use Rattle.layout.specs.Shapes.{Shaped}
-use Rattle.layout.specs.declared.Shape.{Shape}
+use Rattle.layout.specs.declared.shape.Shape.{Shape}
 use Rattle.lines.specs.Keyed.{key_bytes}
 use Rattle.lines.specs.Told.{mapped, refused_by}
-use Rattle.lines.specs.declared.Listed.{Listed}
-use Rattle.lines.specs.declared.Listed.TheVariants.{Next, Refused as Unlisted}
 use Rattle.capacities.specs.Spread.{spread, Room}
 use Rattle.capacities.specs.Capacities.{columns, capacities_of, spread_all}
 use Rattle.capacities.specs.Reads.{judged_line_by, judged-line-is, layer_in}
@@ -72,7 +71,7 @@ layer-law k w l W H ds p = go (east_line W H ds (l + 1) p) (capacity-gives "east
         north (found vs t) = rw (sym s.0.0) (ap (λ (x : List ℕ). found x t) (spread-append k w l east vs))
 
 -- the same, after the code has read and stored the east list: its answer is r, and the working numbers are x
-module _ (s : List ℕ) (c : Cursor) (g : Shape) (h : Shaped g) (w x : List ℕ) (l : ℕ) (r : Listed) (a b : Bool)
+module _ (s : List ℕ) (c : Cursor) (g : Shape) (h : Shaped g) (w x : List ℕ) (l : ℕ) (r : Outcome Cursor Refusal) (a b : Bool)
     (east-way : a ≡ runs (dirs_of g.k g.dirs) 0 (l + 1)) (north-way : b ≡ runs (dirs_of g.k g.dirs) 1 (l + 1))
     (e : list_told s x r ≡ mapped (spread g.k w l) (judged_line_by (key_bytes "east") g.east a (place_of s c))) where
   layer-by : mapped (spread g.k w l) (layer_in g.w g.h (dirs_of g.k g.dirs) (l + 1) (place_of s c))
@@ -91,10 +90,10 @@ module _ (s : List ℕ) (c : Cursor) (g : Shape) (h : Shaped g) (w x : List ℕ)
       north : (q : Place) → north_line g.w g.h (dirs_of g.k g.dirs) (l + 1) q ≡ judged_line_by (key_bytes "north") (g.e - g.east) b q
       north q = rw (count, sym north-way) (judged-line-is "north" (g.e - g.east) b q)
 
-  pub layer-refused : (z : Refusal) → r ≡ Unlisted z → refused_by z ≡ mapped (spread g.k w l) (layer_in g.w g.h (dirs_of g.k g.dirs) (l + 1) (place_of s c))
+  pub layer-refused : (z : Refusal) → r ≡ Err z → refused_by z ≡ mapped (spread g.k w l) (layer_in g.w g.h (dirs_of g.k g.dirs) (l + 1) (place_of s c))
   layer-refused z f = sym (layer-by ∙ rw f)
 
-  pub layer-both : (d : Cursor) (t : Result (List ℕ)) → r ≡ Next d → t ≡ mapped (spread g.k x (l + g.east * g.k)) (judged_line_by (key_bytes "north") (g.e - g.east) b (place_of s d)) →
+  pub layer-both : (d : Cursor) (t : Result (List ℕ)) → r ≡ Ok d → t ≡ mapped (spread g.k x (l + g.east * g.k)) (judged_line_by (key_bytes "north") (g.e - g.east) b (place_of s d)) →
       t ≡ mapped (spread g.k w l) (layer_in g.w g.h (dirs_of g.k g.dirs) (l + 1) (place_of s c))
   layer-both d t f k = k ∙ sym (layer-by ∙ rw f)
 
@@ -139,12 +138,12 @@ caps-turn k w l W H ds K p h =
     ∙ ap₂ (λ (a b : ℕ). next (mapped (spread k w l) (layer_in W H ds (l + 1) p)) (λ x q. mapped (spread_all k x a) (capacity_lines W H ds b (K - (l + 1)) q))) (sym one) (sym two)
 
 -- the same, after the code has read and stored layer l
-module _ (s : List ℕ) (k : ℕ) (w x : List ℕ) (l W H : ℕ) (ds : Option (List ℕ)) (K : ℕ) (c : Cursor) (r : Listed) where
-  pub caps-refused : (z : Refusal) → l < K → list_told s x r ≡ mapped (spread k w l) (layer_in W H ds (l + 1) (place_of s c)) → r ≡ Unlisted z →
+module _ (s : List ℕ) (k : ℕ) (w x : List ℕ) (l W H : ℕ) (ds : Option (List ℕ)) (K : ℕ) (c : Cursor) (r : Outcome Cursor Refusal) where
+  pub caps-refused : (z : Refusal) → l < K → list_told s x r ≡ mapped (spread k w l) (layer_in W H ds (l + 1) (place_of s c)) → r ≡ Err z →
       mapped (spread_all k w l) (capacity_lines W H ds (l + 1) (K - l) (place_of s c)) ≡ refused_by z
   caps-refused z h e f = caps-turn k w l W H ds K (place_of s c) h ∙ rw (sym e, f)
 
-  pub caps-next : (d : Cursor) → l < K → list_told s x r ≡ mapped (spread k w l) (layer_in W H ds (l + 1) (place_of s c)) → r ≡ Next d →
+  pub caps-next : (d : Cursor) → l < K → list_told s x r ≡ mapped (spread k w l) (layer_in W H ds (l + 1) (place_of s c)) → r ≡ Ok d →
       mapped (spread_all k w l) (capacity_lines W H ds (l + 1) (K - l) (place_of s c)) ≡ mapped (spread_all k x (l + 1)) (capacity_lines W H ds (l + 1 + 1) (K - (l + 1)) (place_of s d))
   caps-next d h e f = caps-turn k w l W H ds K (place_of s c) h ∙ rw (sym e, f)
 
@@ -157,9 +156,9 @@ module _ (s : List ℕ) (g : Shape) (h : Shaped g) (w x : List ℕ) (fits : g.k 
   abbrev Rows : List (List ℕ) → Type 0
   Rows cs = (length cs ≡ g.k) × EachCaps g.e cs
 
-  read_again : (r : Listed) (R : Result (List (List ℕ))) → Gives Rows R → list_told s x r ≡ mapped (spread_all g.k w 0) R →
+  read_again : (r : Outcome Cursor Refusal) (R : Result (List (List ℕ))) → Gives Rows R → list_told s x r ≡ mapped (spread_all g.k w 0) R →
       (capacities_told s g x r ≡ R) × beyond_of g w x r
-  read_again (Next c) (found cs p) i e = (rw rows_are (ap (found cs) place_is), rw stored (all_drop g.k g.e w 0 cs i.1 (omega (arith, i.0))))
+  read_again (Ok c) (found cs p) i e = (rw rows_are (ap (found cs) place_is), rw stored (all_drop g.k g.e w 0 cs i.1 (omega (arith, i.0))))
     where
       stored : x ≡ spread_all g.k w 0 cs
       stored = cc
@@ -172,9 +171,9 @@ module _ (s : List ℕ) (g : Shape) (h : Shaped g) (w x : List ℕ) (fits : g.k 
           ap (λ (v : List ℕ). columns g.k g.e v 0 g.k) stored
           ∙ ap (λ (m : ℕ). columns g.k g.e (spread_all g.k w 0 cs) 0 m) (sym i.0)
           ∙ all-columns g.k g.e w 0 cs i.1 (omega (arith, i.0)) fits
-  read_again (Next c) (refused n l) i e = absurd (let z : ◌≡◌ {A = ℕ} 0 1 = cc in omega arith)
-  read_again (Unlisted r) (found cs p) i e = absurd (let z : ◌≡◌ {A = ℕ} 0 1 = cc in omega arith)
-  read_again (Unlisted r) (refused n l) i e = (same, tt)
+  read_again (Ok c) (refused n l) i e = absurd (let z : ◌≡◌ {A = ℕ} 0 1 = cc in omega arith)
+  read_again (Err r) (found cs p) i e = absurd (let z : ◌≡◌ {A = ℕ} 0 1 = cc in omega arith)
+  read_again (Err r) (refused n l) i e = (same, tt)
     where
       number_is : number_of r ≡ n
       number_is = cc
@@ -185,7 +184,7 @@ module _ (s : List ℕ) (g : Shape) (h : Shaped g) (w x : List ℕ) (fits : g.k 
       same : ◌≡◌ {A = Result (List (List ℕ))} (refused (number_of r) (line_of r)) (refused n l)
       same = rw (number_is, line-is)
 
-  pub caps-told : (r : Listed) (p : Place) → list_told s x r ≡ mapped (spread_all g.k w 0) (capacity_lines g.w g.h (dirs_of g.k g.dirs) 1 g.k p) →
+  pub caps-told : (r : Outcome Cursor Refusal) (p : Place) → list_told s x r ≡ mapped (spread_all g.k w 0) (capacity_lines g.w g.h (dirs_of g.k g.dirs) 1 g.k p) →
       (capacities_told s g x r ≡ capacity_lines g.w g.h (dirs_of g.k g.dirs) 1 g.k p) × beyond_of g w x r
   caps-told r p e =
       read_again r (capacity_lines g.w g.h (dirs_of g.k g.dirs) 1 g.k p)

@@ -15,7 +15,8 @@ use Rattle.model.specs.Text.{Cut, cut_step, cut_line, split, number, numbers}
 use Rattle.model.specs.Read.{Reading, next, ◌>>=◌, ◌>>◌, give, form, need, value_in}
 use Rattle.text.specs.Entries.{on_number}
 use Rattle.text.specs.Number.{digit_run, run, numbered}
-use Rattle.text.specs.declared.Numeral.TheVariants.{Value, Malformed}
+use Rattle.std.specs.Prelude.{Some as Found, None as Nothing}
+use Rattle.text.specs.Number.{numeral}
 use Rattle.scan.specs.Lines.{Some, split-some, undigits}
 use Rattle.scan.specs.Places.{after}
 use Rattle.lines.specs.Digits.{past, ended_by, head_at, tail_at}
@@ -72,7 +73,7 @@ module _ (s : List ℕ) where
 
   abbrev StepSays : ℕ → Option ℕ → ℕ → Type 0
   StepSays n o m =
-      on_number (on_number (numbered m o) (λ v k. cond (eqb (get_or s k 0) (ender n)) (Value v (k + 1)) Malformed) Malformed) (λ v k. cons_to v (list_at n s k)) none
+      on_number (on_number (numbered m o) (λ v k. cond (eqb (get_or s k 0) (ender n)) (Found (numeral v (k + 1))) Nothing) Nothing) (λ v k. cons_to v (list_at n s k)) none
       ≡ sized (suc n) (cond (eqb (get_or s m 0) 44) (cons_number o (numbers_of (drop (m + 1) s))) (cond (eqb (get_or s m 0) 10) (cons_number o (some ([], drop (m + 1) s))) none))
 
   list-none : (n m : ℕ) → StepSays n none m
@@ -90,7 +91,7 @@ module _ (s : List ℕ) where
       both p q = omega (arith, eqb-true (get_or s m 0) 44 p, eqb-true (get_or s m 0) 10 q)
 
       test : (p q : Bool) → eqb (get_or s m 0) 44 ≡ p → eqb (get_or s m 0) 10 ≡ q →
-          on_number (cond q (Value v (m + 1)) Malformed) (λ v k. cons_to v (some ([], drop k s))) none
+          on_number (cond q (Found (numeral v (m + 1))) Nothing) (λ v k. cons_to v (some ([], drop k s))) none
           ≡ sized 1 (cond p (cons_to v (numbers_of (drop (m + 1) s))) (cond q (some (v ∷ [], drop (m + 1) s)) none))
       test true true e f = absurd (both e f)
       test true false e f = sym (sym (sized-cons 0 v (numbers_of (drop (m + 1) s))) ∙ rw (some_number (drop (m + 1) s)))
@@ -101,7 +102,7 @@ module _ (s : List ℕ) where
   list-more n v m ih = test (eqb (get_or s m 0) 44) (eqb (get_or s m 0) 10)
     where
       test : (p q : Bool) →
-          on_number (cond p (Value v (m + 1)) Malformed) (λ v k. cons_to v (list_at (suc n) s k)) none
+          on_number (cond p (Found (numeral v (m + 1))) Nothing) (λ v k. cons_to v (list_at (suc n) s k)) none
           ≡ sized (suc (suc n)) (cond p (cons_to v (numbers_of (drop (m + 1) s))) (cond q (some (v ∷ [], drop (m + 1) s)) none))
       test true q = rw (ih (m + 1)) (sized-cons (suc n) v (numbers_of (drop (m + 1) s)))
       test false true = rw (ne_eqb 1 (suc (suc n)) (λ z. omega arith))

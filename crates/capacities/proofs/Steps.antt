@@ -11,13 +11,15 @@ use native.Mathlib.Omega.{arith}
 use borrow.Author.Tests.{ne_eqb}
 use lib.Dec.{leb}
 use lib.ListN.{length, drop, get_or, set, length-set, get_or-eq_default}
+use Rattle.std.specs.Prelude.{Some, None, Result}
 use Rattle.model.specs.Limits.{most_capacity}
 use Rattle.model.specs.Lists.{all}
 use Rattle.model.specs.Read.{refused, found}
 use Rattle.text.specs.Entries.{ended_at}
-use Rattle.text.specs.declared.Numeral.TheVariants.{Value, Malformed}
+use Rattle.text.specs.declared.Cursor.{Cursor}
+use Rattle.text.specs.declared.Refusal.{Refusal}
+use Rattle.text.specs.Number.{numeral}
 use Rattle.lines.specs.Told.{list_in}
-use Rattle.lines.specs.declared.Listed.{Listed}
 use Rattle.lines.specs.Keyed.{ender}
 use Rattle.capacities.specs.Entries.{Numbered, cons_to, list_at, list_line, finish}
 use Rattle.capacities.specs.Spread.{spread, kept, Room}
@@ -68,13 +70,13 @@ pub ender-last : (left : ℕ) → left ≡ 1 → ender (left - 1) ≡ 10
 ender-last left h = rw h
 
 module _ (s : List ℕ) where
-  pub list-none : (left i : ℕ) → 0 < left → ended_at s i (ender (left - 1)) ≡ Malformed → list_at left s i ≡ none
+  pub list-none : (left i : ℕ) → 0 < left → ended_at s i (ender (left - 1)) ≡ None → list_at left s i ≡ none
   list-none zero i h e = absurd (not-suc-le-zero h)
-  list-none (suc n) i h e = let g : ended_at s i (ender n) ≡ Malformed = rw sub-one at e in rw g
+  list-none (suc n) i h e = let g : ended_at s i (ender n) ≡ None = rw sub-one at e in rw g
 
-  pub list-more : (left i v m : ℕ) → 0 < left → ended_at s i (ender (left - 1)) ≡ Value v m → list_at left s i ≡ cons_to v (list_at (left - 1) s m)
+  pub list-more : (left i v m : ℕ) → 0 < left → ended_at s i (ender (left - 1)) ≡ Some (numeral v m) → list_at left s i ≡ cons_to v (list_at (left - 1) s m)
   list-more zero i v m h e = absurd (not-suc-le-zero h)
-  list-more (suc n) i v m h e = let g : ended_at s i (ender n) ≡ Value v m = rw sub-one at e in rw (g, sub-one)
+  list-more (suc n) i v m h e = let g : ended_at s i (ender n) ≡ Some (numeral v m) = rw sub-one at e in rw (g, sub-one)
 
   pub list_done : (left i : ℕ) → left ≤ 0 → list_at left s i ≡ some ([], drop i s)
   list_done zero i h = refl
@@ -115,13 +117,13 @@ module _ (k line : ℕ) where
       go false false r = refl
 
   -- the number v with its end at i, up to m, is stored, and what is known goes on
-  pub turn : (s : List ℕ) (left i v m : ℕ) (inside inside' : Bool) (w w' : List ℕ) (to : ℕ) → 0 < left → ended_at s i (ender (left - 1)) ≡ Value v m →
+  pub turn : (s : List ℕ) (left i v m : ℕ) (inside inside' : Bool) (w w' : List ℕ) (to : ℕ) → 0 < left → ended_at s i (ender (left - 1)) ≡ Some (numeral v m) →
       inside' ≡ (inside && leb v most_capacity) → w' ≡ kept w to v →
       finish k line inside w to (list_at left s i) ≡ finish k line inside' w' (to + k) (list_at (left - 1) s m)
   turn s left i v m inside inside' w w' to h e f g = rw (list-more s left i v m h e, f, g) (finish-more inside w to v (list_at (left - 1) s m))
 
 -- nothing is left
-module _ (line : ℕ) (s : List ℕ) (i : ℕ) (inside : Bool) (r : Listed) (e : r ≡ answer_of i line inside) where
+module _ (line : ℕ) (s : List ℕ) (i : ℕ) (inside : Bool) (r : Result Cursor Refusal) (e : r ≡ answer_of i line inside) where
   pub answer-told : (k : ℕ) (w : List ℕ) (to left : ℕ) → left ≤ 0 → list_told s w r ≡ finish k line inside w to (list_at left s i)
   answer-told k w to left h = rw (e, list_done s left i h) (go inside)
     where

@@ -5,7 +5,6 @@ ghost use Rattle.std.specs.Prelude.{◌≡◌, true, ◌&&◌, ◌+◌, ◌-◌,
 ghost use Rattle.model.specs.Limits.{most_capacity};
 ghost use Rattle.model.specs.Read.{capacity_lines};
 ghost use Rattle.layout.specs.Dirs.{dirs_of};
-ghost use Rattle.layout.specs.Shapes.{Shaped};
 ghost use Rattle.text.specs.Entries.{Brief};
 ghost use Rattle.text.specs.Refusals.{place_of};
 ghost use Rattle.lines.specs.Keyed.{one_line};
@@ -17,8 +16,7 @@ ghost use Rattle.capacities.specs.Entries.{list_at, list_line, finish};
 ghost use Rattle.capacities.specs.Told.{list_told, answer_of, capacities_told, beyond_of};
 ghost use Rattle.capacities.specs.Ran.{Stands, Ran};
 
-use layout::Shape;
-use lines::Listed;
+use layout::{Heading, Shape};
 use text::{Cursor, Fault, Numeral, Refusal};
 
 // "Capacities run from 0 to 65,535."
@@ -47,15 +45,15 @@ fn brief_until(s: &[u8]) -> usize
     if s.len() < 5 { 0 } else { s.len() - 5 }
 }
 
-// The number at `at`, a comma behind it, and the place after that, where six bytes are left: the common case, without a loop. Malformed says
+// The number at `at`, a comma behind it, and the place after that, where six bytes are left: the common case, without a loop. None says
 // nothing.
-fn brief_comma(s: &[u8], at: usize) -> Numeral
+fn brief_comma(s: &[u8], at: usize) -> Option<Numeral>
     ensures { Brief s.now at 44 result }
 {
     if brief_until(s) <= at {
-        return Numeral::Malformed;
+        return None;
     }
-    text::brief(s, at, 44)
+    text::brief(s, at, b',')
 }
 
 // How far the capacities of a line are read: the place of the next one and where it is stored, how many come before the last, and whether all so far
@@ -77,17 +75,13 @@ fn brief_run(s: &[u8], w: &mut [u32], k: usize, from: Run) -> Run
     let mut to = from.to;
     let mut left = from.left;
     let mut inside = from.inside;
+    // not a `for`: how many are left when it stops is handed on
     while 0 < left {
-        let Numeral::Value(v, next) = brief_comma(s, at) else {
-            return Run {
-                at,
-                to,
-                left,
-                inside,
-            };
+        let Some(n) = brief_comma(s, at) else {
+            break;
         };
-        inside = put(w, to, v, inside);
-        at = next;
+        inside = put(w, to, n.value, inside);
+        at = n.next;
         to += k;
         left -= 1;
     }
@@ -108,18 +102,18 @@ struct Column {
 }
 
 // The answer for a list whose form is right, read up to `at`: whether all its capacities are in their range.
-fn answer(at: usize, line: usize, inside: bool) -> Listed
+fn answer(at: usize, line: usize, inside: bool) -> Result<Cursor, Refusal>
     ensures { result ≡ answer_of at line inside }
 {
     if inside {
-        return Listed::Next(Cursor { at, line });
+        return Ok(Cursor { at, line });
     }
-    Listed::Refused(Refusal::Line(Fault::Range, line))
+    Err(Refusal::Line(Fault::Range, line))
 }
 
 // The capacities of a column, which stand from c on. Behind the last is byte 10, and behind each other a comma. They are read in runs; those
 // near the end of the text one by one.
-fn entries(s: &[u8], c: Cursor, w: &mut [u32], to: Column) -> Listed
+fn entries(s: &[u8], c: Cursor, w: &mut [u32], to: Column) -> Result<Cursor, Refusal>
     requires at_in_bounds { c.at ≤ length s.now }
     requires room { Room to.k to.first to.count (length w.old) }
     ensures result_after { list_told s.now w.new result ≡ finish to.k c.line true w.old to.first (list_at to.count s.now c.at) }
@@ -136,27 +130,28 @@ fn entries(s: &[u8], c: Cursor, w: &mut [u32], to: Column) -> Listed
         inside: true,
     };
     let mut r = brief_run(s, w, to.k, start);
+    // not a `for`: a turn reads a whole run of them
     while 0 < r.left {
-        let Numeral::Value(v, next) = lines::ended(s, r.at, 44) else {
-            return Listed::Refused(Refusal::Line(Fault::Form, c.line));
+        let Some(n) = text::ended(s, r.at, b',') else {
+            return Err(Refusal::Line(Fault::Form, c.line));
         };
         let more = Run {
-            at: next,
+            at: n.next,
             to: r.to + to.k,
             left: r.left - 1,
-            inside: put(w, r.to, v, r.inside),
+            inside: put(w, r.to, n.value, r.inside),
         };
         r = brief_run(s, w, to.k, more);
     }
-    let Numeral::Value(v, next) = lines::ended(s, r.at, 10) else {
-        return Listed::Refused(Refusal::Line(Fault::Form, c.line));
+    let Some(n) = text::ended(s, r.at, b'\n') else {
+        return Err(Refusal::Line(Fault::Form, c.line));
     };
-    let all = put(w, r.to, v, r.inside);
-    answer(next, c.line, all)
+    let all = put(w, r.to, n.value, r.inside);
+    answer(n.next, c.line, all)
 }
 
 // The same up to the line's end, where the column may be empty: then the value is empty.
-fn list(s: &[u8], c: Cursor, w: &mut [u32], to: Column) -> Listed
+fn list(s: &[u8], c: Cursor, w: &mut [u32], to: Column) -> Result<Cursor, Refusal>
     requires at_in_bounds { c.at ≤ length s.now }
     requires room { Room to.k to.first to.count (length w.old) }
     ensures result_after { list_told s.now w.new result ≡ finish to.k c.line true w.old to.first (list_line to.count s.now c.at) }
@@ -166,30 +161,31 @@ fn list(s: &[u8], c: Cursor, w: &mut [u32], to: Column) -> Listed
     if 0 < to.count {
         return entries(s, c, w, to);
     }
-    let at = c.at;
-    let line = c.line;
-    if s.len() <= at {
-        return Listed::Refused(Refusal::Line(Fault::Form, line));
+    if s.len() <= c.at || s[c.at] != 10 {
+        return Err(Refusal::Line(Fault::Form, c.line));
     }
-    if s[at] == 10 {
-        return Listed::Next(Cursor { at: at + 1, line });
-    }
-    Listed::Refused(Refusal::Line(Fault::Form, line))
+    Ok(Cursor {
+        at: c.at + 1,
+        line: c.line,
+    })
 }
 
 // A line of capacities.
-fn capacity_line<'a>(s: &'a [u8], c: Cursor, key: &'a [u8], w: &mut [u32], to: Column) -> Listed
+fn capacity_line<'a>(
+    s: &'a [u8],
+    c: Cursor,
+    key: &'a [u8],
+    w: &mut [u32],
+    to: Column,
+) -> Result<Cursor, Refusal>
     requires at_in_bounds { (c.at ≤ length s.now) × (c.line < 1048576) × (one_line key.now ≡ true) }
     requires room { Room to.k to.first to.count (length w.old) }
     ensures result_after { list_told s.now w.new result ≡ mapped (spread to.k w.old to.first) (capacity_line_by key.now to.count (place_of s.now c)) }
     ensures list_in { list_in (length s.now) (c.line + 1) result }
     ensures w_len_unchanged { length w.new ≡ length w.old }
 {
-    let o = lines::open_line(s, c, key);
-    if !o.there {
-        return Listed::Refused(Refusal::Line(Fault::Form, o.place.line));
-    }
-    list(s, o.place, w, to)
+    let d = lines::expect_line(s, c, key)?;
+    list(s, d, w, to)
 }
 
 // Whether a column holds nothing but 0.
@@ -198,13 +194,11 @@ fn all_zero(w: &[u32], of: Column) -> bool
     ensures { result ≡ zeros (column of.k w.now of.first of.count) }
 {
     let mut at = of.first;
-    let mut left = of.count;
-    while 0 < left {
+    for _ in 0..of.count {
         if w[at] != 0 {
             return false;
         }
         at += of.k;
-        left -= 1;
     }
     true
 }
@@ -217,63 +211,55 @@ fn judged_line<'a>(
     w: &mut [u32],
     to: Column,
     along: bool,
-) -> Listed
+) -> Result<Cursor, Refusal>
     requires at_in_bounds { (c.at ≤ length s.now) × (c.line < 1048576) × (one_line key.now ≡ true) }
     requires room { Room to.k to.first to.count (length w.old) }
     ensures result_after { list_told s.now w.new result ≡ mapped (spread to.k w.old to.first) (judged_line_by key.now to.count along (place_of s.now c)) }
     ensures list_in { list_in (length s.now) (c.line + 1) result }
     ensures w_len_unchanged { length w.new ≡ length w.old }
 {
-    match capacity_line(s, c, key, w, to) {
-        Listed::Refused(r) => Listed::Refused(r),
-        Listed::Next(d) => {
-            if along {
-                return Listed::Next(d);
-            }
-            if all_zero(w, to) {
-                return Listed::Next(d);
-            }
-            Listed::Refused(Refusal::Line(Fault::Closed, d.line))
-        }
+    let d = capacity_line(s, c, key, w, to)?;
+    if along || all_zero(w, to) {
+        return Ok(d);
     }
+    Err(Refusal::Line(Fault::Closed, d.line))
 }
 
 // ---- the layers
 
 // Both capacity lines of one layer, 0 being the bottom one: edge e's capacity is stored at e * K + layer.
-fn layer_lines(s: &[u8], c: Cursor, w: &mut [u32], g: Shape, layer: usize) -> Listed
+fn layer_lines(
+    s: &[u8],
+    c: Cursor,
+    w: &mut [u32],
+    g: Shape,
+    layer: usize,
+) -> Result<Cursor, Refusal>
     requires at_in_bounds { (c.at ≤ length s.now) × (c.line < 100) }
-    requires shaped { Shaped g }
     requires layer_lt_k { (layer < g.k) × (g.k * g.e ≤ length w.old) }
     ensures result_after { list_told s.now w.new result ≡ mapped (spread g.k w.old layer) (layer_in g.w g.h (dirs_of g.k g.dirs) (layer + 1) (place_of s.now c)) }
     ensures list_in { list_in (length s.now) (c.line + 2) result }
     ensures w_len_unchanged { length w.new ≡ length w.old }
 {
-    let dirs = g.dirs;
-    let eastward = layout::runs(dirs, 0, layer);
-    let northward = layout::runs(dirs, 1, layer);
+    let eastward = layout::runs(g.dirs, Heading::East, layer);
+    let northward = layout::runs(g.dirs, Heading::North, layer);
     let east = Column {
         first: layer,
         k: g.k,
         count: g.east,
     };
-    match judged_line(s, c, b"east=", w, east, eastward) {
-        Listed::Refused(r) => Listed::Refused(r),
-        Listed::Next(d) => {
-            let north = Column {
-                first: layer + g.east * g.k,
-                k: g.k,
-                count: g.e - g.east,
-            };
-            judged_line(s, d, b"north=", w, north, northward)
-        }
-    }
+    let d = judged_line(s, c, b"east=", w, east, eastward)?;
+    let north = Column {
+        first: layer + g.east * g.k,
+        k: g.k,
+        count: g.e - g.east,
+    };
+    judged_line(s, d, b"north=", w, north, northward)
 }
 
 // The capacity lines of all layers.
-pub fn all_layers(s: &[u8], from: Cursor, w: &mut [u32], g: Shape) -> Listed
+pub fn all_layers(s: &[u8], from: Cursor, w: &mut [u32], g: Shape) -> Result<Cursor, Refusal>
     requires at_in_bounds { (from.at ≤ length s.now) × (from.line < 50) }
-    requires shaped { Shaped g }
     requires e_in_bounds { g.k * g.e ≤ length w.old }
     ensures result_after { capacities_told s.now g w.new result ≡ capacity_lines g.w g.h (dirs_of g.k g.dirs) 1 g.k (place_of s.now from) }
     ensures beyond_of { beyond_of g w.old w.new result }
@@ -281,17 +267,8 @@ pub fn all_layers(s: &[u8], from: Cursor, w: &mut [u32], g: Shape) -> Listed
     ensures w_len_unchanged { length w.new ≡ length w.old }
 {
     let mut c = from;
-    let mut layer = 0;
-    while layer < g.k {
-        match layer_lines(s, c, w, g, layer) {
-            Listed::Refused(r) => {
-                return Listed::Refused(r);
-            }
-            Listed::Next(d) => {
-                c = d;
-            }
-        }
-        layer += 1;
+    for layer in 0..g.k {
+        c = layer_lines(s, c, w, g, layer)?;
     }
-    Listed::Next(c)
+    Ok(c)
 }

@@ -8,9 +8,11 @@ ghost use Rattle.model.specs.Read.{read};
 ghost use Rattle.reader.specs.Whole.{lent_by};
 ghost use Rattle.cases.specs.Told.{told_by, told_in};
 
-use reader::{JobRead, Lists, PrintRoom};
+use head::Head;
+use reader::Lists;
 use std::io;
 use std::io::{Read, Write};
+use text::Refusal;
 
 // A header, as `work=0000108 order=0000002 answer=0000003 print=0000390 bytes=0000245 fill=0000000` with byte 10: the lent lengths, the bytes of the text
 // that follow, and how many bytes 10 go behind them. Plan has `print=-------`.
@@ -35,14 +37,14 @@ struct Told {
     line: usize,
 }
 
-fn answer_told(r: JobRead) -> Told
+fn answer_told(r: Result<Head, Refusal>) -> Told
     ensures { result ≡ told_by r }
 {
     match r {
-        JobRead::Job(_) => Told { number: 0, line: 0 },
-        JobRead::Refused(f) => {
-            let number = text::number_of(f);
-            let line = text::line_of(f);
+        Ok(_) => Told { number: 0, line: 0 },
+        Err(f) => {
+            let number = f.number();
+            let line = f.line();
             Told { number, line }
         }
     }
@@ -55,7 +57,7 @@ fn judge(
     table: &mut [u32],
     order: usize,
     answer: usize,
-    print: PrintRoom,
+    print: Option<usize>,
 ) -> Told
     requires { table_size ≤ length table.old }
     ensures value { result ≡ told_in (read (lent_by (length w.old) order answer print) s.now) }
@@ -73,13 +75,11 @@ fn judge(
 fn digit(b: u8) -> usize
     ensures { result ≤ 9 }
 {
-    if b < 48 {
-        return 0;
+    if b.is_ascii_digit() {
+        (b - b'0') as usize
+    } else {
+        0
     }
-    if 57 < b {
-        return 0;
-    }
-    (b - 48) as usize
 }
 
 // The number of seven digits at `at`.
@@ -88,32 +88,17 @@ fn field(h: &[u8; HEADER], at: usize) -> usize
     ensures { result < 10000000 }
 {
     let mut v = 0;
-    for i in 0..7 {
-        v = (10 * v + digit(h[at + i])) % 10000000;
+    for &b in &h[at..at + 7] {
+        v = (10 * v + digit(b)) % 10000000;
     }
     v
 }
 
-fn room(h: &[u8; HEADER]) -> PrintRoom {
+fn room(h: &[u8; HEADER]) -> Option<usize> {
     if h[PRINT] == b'-' {
-        return PrintRoom::Absent;
+        return None;
     }
-    PrintRoom::Bytes(field(h, PRINT))
-}
-
-fn least(a: usize, b: usize) -> usize
-    ensures { (result ≤ a) × (result ≤ b) }
-{
-    if a < b { a } else { b }
-}
-
-// Bytes 10 from `from` up to `to`.
-fn fill(t: &mut [u8], from: usize, to: usize)
-    requires { to ≤ length t.old }
-{
-    for i in from..to {
-        t[i] = 10;
-    }
+    Some(field(h, PRINT))
 }
 
 fn print<O: Write>(to: &mut O, v: Told) -> io::Result<()> {
@@ -125,10 +110,10 @@ fn load<I: Read>(from: &mut I, h: &[u8; HEADER], t: &mut [u8]) -> io::Result<usi
     ensures ok { IfOk result (λ n. n ≤ length t.new) }
     ensures t_len_unchanged { length t.new ≡ length t.old }
 {
-    let bytes = least(field(h, BYTES), t.len());
+    let bytes = field(h, BYTES).min(t.len());
     input::read_full(from, &mut t[..bytes])?;
-    let end = least(bytes + field(h, FILL), t.len());
-    fill(t, bytes, end);
+    let end = (bytes + field(h, FILL)).min(t.len());
+    t[bytes..end].fill(b'\n');
     Ok(end)
 }
 
@@ -149,7 +134,7 @@ fn case<I: Read, O: Write>(
         return Ok(false);
     }
     let end = load(from, &h, t)?;
-    let work = least(field(&h, WORK), w.len());
+    let work = field(&h, WORK).min(w.len());
     let told = judge(
         &t[..end],
         &mut w[..work],

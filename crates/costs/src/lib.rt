@@ -17,22 +17,15 @@
 ghost use Rattle.std.specs.Prelude.{◌≡◌, cond, ℕ, suc, ◌+◌, ◌-◌, ◌*◌, ◌/◌, ◌%◌, ◌^◌, ◌<◌, ◌≤◌, min, leb, eqb, get_or, length};
 ghost use Rattle.model.specs.Lists.{up_from};
 ghost use Rattle.theory.specs.engine.Interval.{least_in};
-ghost use Rattle.sets.specs.Mask.{with_layer, span_of, Charted};
+ghost use Rattle.sets.specs.Mask.{with_layer, span_of};
 ghost use Rattle.costs.specs.Rows.{illegal_cost, LeastCost, Eight, TileCosts, RowPut, RowWritten, first_in, branches_in, pins_in, legal_in, root_branches, LayerMask, Shape, RowsFrom};
 ghost use Rattle.costs.specs.Intervals.{within, interval, Taken, around, PinEnds};
 ghost use Rattle.costs.specs.Sweeps.{swept_up, swept_down, swept, Small, met, pair_met, triple_met};
 
+use sets::Chart;
+
 // The cost of an illegal layer, above the cost of any net.
 pub const ILLEGAL: u32 = 536870912;
-
-fn least_of(x: u32, y: u32) -> u32
-    ensures { result ≡ min x y }
-{
-    if x < y {
-        return x;
-    }
-    y
-}
 
 // ---- a tile's costs over intervals
 
@@ -47,7 +40,7 @@ fn add_branch(v: &mut [u32; 8], w: &[u32], at: usize, layers: usize, s: usize)
 {
     let mut least = ILLEGAL;
     for b in s..layers {
-        least = least_of(w[at + b], least);
+        least = w[at + b].min(least);
         v[b] = v[b] + least;
     }
 }
@@ -104,11 +97,9 @@ fn take_intervals(c: &mut [u32; 8], v: &[u32; 8], layers: usize, s: usize, high:
     ensures { Taken c.old c.new v.now layers s high }
 {
     let mut least = ILLEGAL;
-    let mut b = layers;
-    while s < b {
-        b -= 1;
-        least = least_of(ended(v, high, b), least);
-        c[b] = least_of(c[b], least);
+    for b in (s..layers).rev() {
+        least = ended(v, high, b).min(least);
+        c[b] = c[b].min(least);
     }
 }
 
@@ -201,7 +192,7 @@ fn sweep_up(w: &[u32], at: usize, layers: usize) -> [u32; 8]
     let mut c = [0u32; 8];
     let mut x = ILLEGAL;
     for l in 0..layers {
-        x = least_of(least_of(x + 1, w[at + l]), ILLEGAL);
+        x = (x + 1).min(w[at + l]).min(ILLEGAL);
         c[l] = x;
     }
     c
@@ -214,10 +205,8 @@ fn sweep_down(c: &mut [u32; 8], layers: usize)
     ensures { Eight c.new (λ l. swept_down (λ t. get_or c.old t 0) layers (layers - l)) 0 layers }
 {
     let mut x = ILLEGAL;
-    let mut l = layers;
-    while 0 < l {
-        l -= 1;
-        x = least_of(x + 1, c[l]);
+    for l in (0..layers).rev() {
+        x = (x + 1).min(c[l]);
         c[l] = x;
     }
 }
@@ -265,7 +254,7 @@ fn least_sum(c: &[u32; 8], a: &[u32; 8], b: &[u32; 8]) -> [u32; 8]
 {
     let mut d = [0u32; 8];
     for l in 0..8 {
-        d[l] = least_of(c[l], a[l] + b[l]);
+        d[l] = c[l].min(a[l] + b[l]);
     }
     d
 }
@@ -302,9 +291,8 @@ fn triple_costs(w: &[u32], at: usize) -> [u32; 8]
 // ---- the costs of a tile
 
 // A tile without branches: its vias.
-fn leaf_costs(chart: &[u32; 256], pins: u32) -> [u32; 8]
-    requires charted { Charted span_of chart.now }
-    requires pins_bound { pins < 256 }
+fn leaf_costs(chart: &Chart, pins: u32) -> [u32; 8]
+    requires { pins < 256 }
     ensures { Eight result (λ l. span_of (with_layer pins (suc l))) 0 8 }
 {
     let mut c = [0u32; 8];
@@ -312,7 +300,7 @@ fn leaf_costs(chart: &[u32; 256], pins: u32) -> [u32; 8]
         return c;
     }
     for l in 0..8 {
-        c[l] = sets::span(chart, sets::with_layer(pins, l + 1));
+        c[l] = chart.span(sets::with_layer(pins, l + 1));
     }
     c
 }
@@ -342,8 +330,7 @@ fn pin_ends(pins: u32, layers: usize) -> Bounds
 }
 
 // One branch, and pins that are all on one layer: the branch meets them.
-fn pin_costs(w: &[u32], at: usize, pins: u32, chart: &[u32; 256]) -> [u32; 8]
-    requires charted { Charted span_of chart.now }
+fn pin_costs(w: &[u32], at: usize, pins: u32, chart: &Chart) -> [u32; 8]
     requires at_bound { at ≤ 33554432 }
     requires at_in_bounds { at + 8 ≤ length w.now }
     requires pins_bound { pins < 256 }
@@ -355,15 +342,7 @@ fn pin_costs(w: &[u32], at: usize, pins: u32, chart: &[u32; 256]) -> [u32; 8]
 }
 
 // A tile with k branches, one or more, on eight layers.
-fn eight_costs(
-    w: &[u32],
-    o: usize,
-    first: usize,
-    k: usize,
-    pins: u32,
-    chart: &[u32; 256],
-) -> [u32; 8]
-    requires charted { Charted span_of chart.now }
+fn eight_costs(w: &[u32], o: usize, first: usize, k: usize, pins: u32, chart: &Chart) -> [u32; 8]
     requires le_k { (1 ≤ k) × (k ≤ 3) }
     requires layer_mask { LayerMask 8 pins }
     requires first_bound { (first ≤ 65536) × (o ≤ 16777216) }
@@ -393,8 +372,7 @@ fn eight_costs(
 }
 
 // The least cost of a tile with these branches, for each layer above it.
-fn tile_costs(w: &[u32], b: Branches, layers: usize, pins: u32, chart: &[u32; 256]) -> [u32; 8]
-    requires charted { Charted span_of chart.now }
+fn tile_costs(w: &[u32], b: Branches, layers: usize, pins: u32, chart: &Chart) -> [u32; 8]
     requires count_bound { b.count ≤ 3 }
     requires layer_mask { LayerMask layers pins }
     requires le_layers { (1 ≤ layers) × (layers ≤ 8) }
@@ -441,13 +419,6 @@ fn put_row(w: &mut [u32], at: usize, c: &[u32; 8], legal: u32)
     }
 }
 
-fn wide(x: u32) -> u64
-    ensures value { result ≡ x }
-    ensures upper_bound { result < 4294967296 }
-{
-    x as u64
-}
-
 // The number at p.
 pub fn at(w: &[u32], p: usize) -> usize
     requires p_bound { p ≤ 16777216 }
@@ -455,12 +426,11 @@ pub fn at(w: &[u32], p: usize) -> usize
     ensures value { result ≡ get_or w.now p 0 }
     ensures upper_bound { result < 4294967296 }
 {
-    wide(w[p]) as usize
+    w[p] as usize
 }
 
 // Writes the row of tile i, which is not the root.
-fn tile_row(w: &mut [u32], m: usize, n: usize, i: usize, layers: usize, chart: &[u32; 256])
-    requires charted { Charted span_of chart.now }
+fn tile_row(w: &mut [u32], m: usize, n: usize, i: usize, layers: usize, chart: &Chart)
     requires shape { Shape w.old m n layers }
     requires le_i { (1 ≤ i) × (i < n) }
     ensures { RowWritten w.old w.new (4 * m) i (first_in w.old i) (branches_in w.old i) layers (pins_in w.old m i) (legal_in w.old m i) }
@@ -479,14 +449,11 @@ fn tile_row(w: &mut [u32], m: usize, n: usize, i: usize, layers: usize, chart: &
 }
 
 // Writes the cost rows of the tiles n - 1 down to 1: each is taken over the rows of its branches, which stand further on.
-pub fn costs(w: &mut [u32], m: usize, n: usize, layers: usize, chart: &[u32; 256])
-    requires charted { Charted span_of chart.now }
+pub fn costs(w: &mut [u32], m: usize, n: usize, layers: usize, chart: &Chart)
     requires shape { Shape w.old m n layers }
     ensures { RowsFrom w.old w.new m n layers 1 }
 {
-    let mut i = n;
-    while 1 < i {
-        i -= 1;
+    for i in (1..n).rev() {
         tile_row(w, m, n, i, layers, chart);
     }
 }
@@ -500,14 +467,13 @@ fn least_cost(c: &[u32; 8], layers: usize) -> u32
 {
     let mut least = ILLEGAL;
     for l in 0..layers {
-        least = least_of(c[l], least);
+        least = c[l].min(least);
     }
     least
 }
 
 // The least cost of the root, and so of the net. No layer is above the root: it could be any.
-pub fn root_least(w: &[u32], m: usize, n: usize, layers: usize, chart: &[u32; 256]) -> u32
-    requires charted { Charted span_of chart.now }
+pub fn root_least(w: &[u32], m: usize, n: usize, layers: usize, chart: &Chart) -> u32
     requires shape { Shape w.now m n layers }
     ensures { LeastCost w.now (4 * m) 1 (root_branches w.now) layers (get_or w.now m 0) result }
 {

@@ -6,7 +6,7 @@ use mathlib.Core.Path.{◌≡◌, refl, sym, subst, ◌∙◌}
 use Prim.Native.Nat.{ℕ, suc, ◌+◌, ◌≤◌, ◌<◌}
 use lib.ListN.{length}
 use Rattle.layout.specs.Shapes.{Shaped, WayRoom, way_of}
-use Rattle.layout.specs.declared.Shape.{Shape}
+use Rattle.layout.specs.declared.shape.Shape.{Shape}
 use Rattle.marks.specs.Marks.{bits_at, marked, unmark, unmark-long}
 use Rattle.model.specs.Cut.{pinned}
 use Rattle.model.specs.Job.{Pin}

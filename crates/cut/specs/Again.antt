@@ -4,7 +4,7 @@ use Rattle.std.specs.Prelude.{Bool, true, false, cond, List, [], ◌∷◌, ◌+
 use Rattle.std.proofs.Common.{ap}
 use Rattle.layout.specs.Areas.{tiles_of}
 use Rattle.layout.specs.Shapes.{Shaped}
-use Rattle.layout.specs.declared.Shape.{Shape}
+use Rattle.layout.specs.declared.shape.Shape.{Shape}
 use Rattle.model.specs.Job.{Net}
 use Rattle.model.specs.Lists.{has, keep}
 use Rattle.net.specs.AtHand.{Drawn}

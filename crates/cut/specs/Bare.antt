@@ -1,9 +1,10 @@
 -- A tile whose only mark is a way: it has one edge and no pin.
 -- Assumes nothing.
-use Rattle.std.specs.Prelude.{Bool, true, false, ◌&&◌, ◌||◌, cond, List, [], ◌∷◌, ◌≢◌, ◌≡◌, refl, ℕ, zero, suc, ◌+◌, ◌-◌, ◌*◌, ◌^◌, ◌≤◌, ◌<◌, T, eqb, length}
-use Rattle.std.proofs.Common.{⊎_elim, sym, ap, subst, ◌∙◌, zero-add, arith, eq-eqb, ne_eqb, eqb-true}
+use Rattle.std.specs.Prelude.{Bool, true, false, ◌&&◌, ◌||◌, cond, List, [], ◌∷◌, ◌≢◌, ◌≡◌, refl, ℕ, zero, suc, ◌+◌, ◌-◌, ◌*◌, ◌^◌, ◌≤◌, ◌<◌, T, eqb, ltb, Option, Some, None, length}
+use Rattle.std.proofs.Common.{⊎_elim, sym, ap, subst, ◌∙◌, zero-add, arith, eq-eqb, ne_eqb, eqb-true, ltb-true, ltb-false}
+use Rattle.std.proofs.lemmas.Option.{none-some, same_Some}
 use Rattle.layout.specs.Shapes.{Shaped}
-use Rattle.layout.specs.declared.Shape.{Shape}
+use Rattle.layout.specs.declared.shape.Shape.{Shape}
 use Rattle.marks.specs.Marks.{bits_at}
 use Rattle.marks.specs.Words.{bit_of, bits_small, bit-zero, bit-add, value_of, value-is}
 use Rattle.model.specs.Cut.{pinned}
@@ -33,19 +34,6 @@ pub record Fine (g : Shape) (ps : List Pin) (es : List ℕ) : Type 0 where
 unfoldable pub way_in : ℕ → ℕ
 way_in m = cond (eqb m 256) 0 (cond (eqb m 512) 1 (cond (eqb m 1_024) 2 (cond (eqb m 2_048) 3 4)))
 
-pub way-power : (m : ℕ) → way_in m < 4 → m ≡ 2 ^ (8 + way_in m)
-unfolding way_in
-way-power m = go (eqb m 256) refl (eqb m 512) refl (eqb m 1_024) refl (eqb m 2_048) refl
-  where
-    go : (a : Bool) → eqb m 256 ≡ a → (b : Bool) → eqb m 512 ≡ b → (c : Bool) → eqb m 1_024 ≡ c → (d : Bool) → eqb m 2_048 ≡ d
-        → cond (eqb m 256) 0 (cond (eqb m 512) 1 (cond (eqb m 1_024) 2 (cond (eqb m 2_048) 3 4))) < 4
-        → m ≡ 2 ^ (8 + cond (eqb m 256) 0 (cond (eqb m 512) 1 (cond (eqb m 1_024) 2 (cond (eqb m 2_048) 3 4))))
-    go true e b f c h d i l = rw e (eqb-true m 256 e)
-    go false e true f c h d i l = rw (e, f) (eqb-true m 512 f)
-    go false e false f true h d i l = rw (e, f, h) (eqb-true m 1_024 h)
-    go false e false f false h true i l = rw (e, f, h, i) (eqb-true m 2_048 i)
-    go false e false f false h false i l = absurd (let k : ◌<◌ 4 4 = rw (e, f, h, i) at l in omega arith)
-
 pub way-first : (m : ℕ) → m ≡ 256 → 0 ≡ way_in m
 unfolding way_in
 way-first m e = rw (eq-eqb m 256 e)
@@ -65,6 +53,37 @@ way-fourth m p q r e = rw (ne_eqb m 256 p, ne_eqb m 512 q, ne_eqb m 1_024 r, eq-
 pub way-other : (m : ℕ) → m ≢ 256 → m ≢ 512 → m ≢ 1_024 → m ≢ 2_048 → 4 ≡ way_in m
 unfolding way_in
 way-other m p q r u = rw (ne_eqb m 256 p, ne_eqb m 512 q, ne_eqb m 1_024 r, ne_eqb m 2_048 u)
+
+-- the way that is its only mark, where it has one such
+abbrev pub only_of : ℕ → Option ℕ
+only_of m = cond (ltb (way_in m) 4) (Some (way_in m)) None
+
+pub only-some : (m d : ℕ) → Some d ≡ only_of m → (d ≡ way_in m) × (way_in m < 4)
+only-some m d = go (ltb (way_in m) 4) refl
+  where
+    go : (q : Bool) → ltb (way_in m) 4 ≡ q → Some d ≡ cond q (Some (way_in m)) None → (d ≡ way_in m) × (way_in m < 4)
+    go true e h = (same_Some d (way_in m) h, ltb-true (way_in m) 4 e)
+    go false e h = absurd (none-some d (sym h))
+
+pub only-none : (m : ℕ) → None ≡ only_of m → 4 ≤ way_in m
+only-none m = go (ltb (way_in m) 4) refl
+  where
+    go : (q : Bool) → ltb (way_in m) 4 ≡ q → None ≡ cond q (Some (way_in m)) None → 4 ≤ way_in m
+    go true e h = absurd (none-some (way_in m) h)
+    go false e h = ltb-false (way_in m) 4 e
+
+pub way-power : (m : ℕ) → way_in m < 4 → m ≡ 2 ^ (8 + way_in m)
+unfolding way_in
+way-power m = go (eqb m 256) refl (eqb m 512) refl (eqb m 1_024) refl (eqb m 2_048) refl
+  where
+    go : (a : Bool) → eqb m 256 ≡ a → (b : Bool) → eqb m 512 ≡ b → (c : Bool) → eqb m 1_024 ≡ c → (d : Bool) → eqb m 2_048 ≡ d
+        → cond (eqb m 256) 0 (cond (eqb m 512) 1 (cond (eqb m 1_024) 2 (cond (eqb m 2_048) 3 4))) < 4
+        → m ≡ 2 ^ (8 + cond (eqb m 256) 0 (cond (eqb m 512) 1 (cond (eqb m 1_024) 2 (cond (eqb m 2_048) 3 4))))
+    go true e b f c h d i l = rw e (eqb-true m 256 e)
+    go false e true f c h d i l = rw (e, f) (eqb-true m 512 f)
+    go false e false f true h d i l = rw (e, f, h) (eqb-true m 1_024 h)
+    go false e false f false h true i l = rw (e, f, h, i) (eqb-true m 2_048 i)
+    go false e false f false h false i l = absurd (let k : ◌<◌ 4 4 = rw (e, f, h, i) at l in omega arith)
 
 pub way-none : (m : ℕ) → 4 ≤ way_in m → (m ≢ 256) × (m ≢ 512) × (m ≢ 1_024) × (m ≢ 2_048)
 unfolding way_in

@@ -5,7 +5,7 @@ use Rattle.std.proofs.Common.{append-nil, inl, inr, sym, ap, subst, ◌∙◌, a
 use Rattle.layout.specs.Areas.{demand_at, tiles_at, links_at, tiles_of, links_of}
 use Rattle.layout.specs.Parts.{part-outside, Outside, set-outside, outside_wider, outside-then, outside-same}
 use Rattle.layout.specs.Shapes.{Shaped}
-use Rattle.layout.specs.declared.Shape.{Shape}
+use Rattle.layout.specs.declared.shape.Shape.{Shape}
 use Rattle.marks.specs.Marks.{Older}
 use Rattle.model.specs.Job.{Pin, Net}
 use Rattle.model.specs.Lists.{has, keep, occurs}

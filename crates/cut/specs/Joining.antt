@@ -5,7 +5,7 @@ use Rattle.std.proofs.Common.{append-nil, inl, inr, sym, ap, subst, ◌∙◌, a
 use Rattle.layout.specs.Areas.{tiles_at, links_at, chosen_at, tiles_of, links_of}
 use Rattle.layout.specs.Parts.{part-long, part-outside, Outside, outside_wider, outside-then, outside-same}
 use Rattle.layout.specs.Shapes.{Shaped}
-use Rattle.layout.specs.declared.Shape.{Shape}
+use Rattle.layout.specs.declared.shape.Shape.{Shape}
 use Rattle.marks.specs.Marks.{marks_after, Older}
 use Rattle.marks.specs.Words.{Fits}
 use Rattle.model.specs.Job.{Pin}

@@ -7,7 +7,7 @@ use Rattle.std.proofs.Math.Seq.{get_or-append_seam}
 use Rattle.layout.specs.Areas.{tiles_at, links_at, list_at, tiles_of}
 use Rattle.layout.specs.Parts.{part, part-outside, Outside, set-outside, outside_wider, outside-then, outside-same}
 use Rattle.layout.specs.Shapes.{Shaped}
-use Rattle.layout.specs.declared.Shape.{Shape}
+use Rattle.layout.specs.declared.shape.Shape.{Shape}
 use Rattle.marks.specs.Marks.{Older}
 use Rattle.model.specs.Job.{Pin, Net, Job}
 use Rattle.model.specs.Lists.{has, keep}

@@ -6,7 +6,7 @@ use Rattle.std.proofs.Math.Path.{◌≡◌, ap}
 use Rattle.layout.specs.Areas.{tiles_at, links_at, chosen_at, tiles_of, links_of}
 use Rattle.layout.specs.Parts.{part-outside, Outside, outside_wider, outside-then}
 use Rattle.layout.specs.Shapes.{Shaped}
-use Rattle.layout.specs.declared.Shape.{Shape}
+use Rattle.layout.specs.declared.shape.Shape.{Shape}
 use Rattle.marks.specs.Marks.{Older}
 use Rattle.marks.specs.Words.{Fits}
 use Rattle.model.specs.Cut.{pinned}

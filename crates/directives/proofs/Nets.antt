@@ -19,7 +19,7 @@ use Rattle.layout.specs.Fill.{PartCleared}
 use Rattle.layout.specs.Parts.{part-outside, Outside, outside-then}
 use Rattle.layout.specs.Shapes.{Shaped}
 use Rattle.layout.specs.Table.{pins_column, edges_column, count_column, dropped_in, low_in}
-use Rattle.layout.specs.declared.Shape.{Shape}
+use Rattle.layout.specs.declared.shape.Shape.{Shape}
 use Rattle.marks.specs.Marks.{Older}
 use Rattle.marks.specs.Words.{most_stamp}
 use Rattle.model.specs.Directives.{summed_excess, wanting, ldof_at, ldof, given, has_low}
@@ -33,7 +33,7 @@ use Rattle.net.specs.Left.{EdgesThere, edges-there}
 use Rattle.net.specs.SoFar.{Capacities}
 use Rattle.net.specs.Table.{PinsAt, EdgesAt, mark_of}
 use Rattle.print.specs.Texts.{ldof_text}
-use Rattle.print.specs.declared.Ldof.TheVariants.{Absent, Sum}
+use Rattle.std.specs.Prelude.{None, Some}
 use Rattle.theory.specs.congestion.Base.{in-up_from}
 use Rattle.theory.specs.congestion.Sums.{sum-eq}
 use Rattle.theory.specs.directives.Demand.{excess-eq}
@@ -254,7 +254,7 @@ module _ (s : List ℕ) (g : Shape) (shaped : Shaped g) (table : List ℕ) (n : 
       ∙ mark-given (net_of j (suc k)).low (low-inside j lent asked.accepted k b).0
       ∙ ap (λ (i : ℕ). given (get_or j.nets i no_net).low) p)
 
-  pub none-printed : any_low table n ≡ false → ldof_text Absent ≡ ldof_line j
+  pub none-printed : any_low table n ≡ false → ldof_text None ≡ ldof_line j
   none-printed h = sym (ap (λ (b : Bool). cond b (print_line "ldof" (ldof j ∷ [])) []) (sym any-is ∙ h))
 
   -- the nets are counted, which makes w₁ of w, but for the marks and the links of the tiles
@@ -286,7 +286,7 @@ module _ (s : List ℕ) (g : Shape) (shaped : Shaped g) (table : List ℕ) (n : 
         sum-eq (excess_in g w₁) (ldof_at j) (up_from 0 g.e) (λ e i. edge-is e (omega (arith, ((in-up_from e 0 g.e).0 i).1)))
         ∙ ap (λ (m : ℕ). sum (ldof_at j) (up_from 0 m)) asked.edges
 
-    pub sum-printed : any_low table n ≡ true → (v : ℕ) → v ≡ sum (excess_in g w₁) (up_from 0 g.e) → ldof_text (Sum v) ≡ ldof_line j
+    pub sum-printed : any_low table n ≡ true → (v : ℕ) → v ≡ sum (excess_in g w₁) (up_from 0 g.e) → ldof_text (Some v) ≡ ldof_line j
     sum-printed h v e =
         ap (λ (m : ℕ). print_line "ldof" (m ∷ [])) (e ∙ sum_is)
         ∙ sym (ap (λ (b : Bool). cond b (print_line "ldof" (ldof j ∷ [])) []) (sym any-is ∙ h))

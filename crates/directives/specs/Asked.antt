@@ -2,7 +2,7 @@
 -- Assumes nothing.
 use Rattle.std.specs.Prelude.{List, ◌≡◌, ℕ, ◌≤◌, ◌<◌}
 use Rattle.flat.specs.FlatPlan.{NoLoads}
-use Rattle.layout.specs.declared.Shape.{Shape}
+use Rattle.layout.specs.declared.shape.Shape.{Shape}
 use Rattle.model.specs.Job.{Job, net_count, edge_count}
 use Rattle.model.specs.Read.{Lent}
 use Rattle.net.specs.SoFar.{Capacities}

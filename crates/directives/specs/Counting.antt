@@ -5,7 +5,7 @@ use Rattle.std.proofs.Common.{append-nil, inr, sym, ap, subst, ◌∙◌, arith}
 use Rattle.cut.specs.Again.{KeptAt, keep-end}
 use Rattle.layout.specs.Areas.{loads_at, demand_at, tiles_at, tiles_of}
 use Rattle.layout.specs.Parts.{part-outside, Outside, outside-then, outside-same}
-use Rattle.layout.specs.declared.Shape.{Shape}
+use Rattle.layout.specs.declared.shape.Shape.{Shape}
 use Rattle.model.specs.Job.{Pin, Net}
 use Rattle.model.specs.Limits.{most_nets}
 use Rattle.model.specs.Lists.{has, keep, occurs}

@@ -3,7 +3,7 @@
 use Rattle.std.specs.Prelude.{Bool, cond, List, [], ◌∷◌, ℕ, ◌+◌, ◌-◌, ◌*◌, ◌≤◌, ◌<◌, ltb, get_or, set}
 use Rattle.layout.specs.Areas.{loads_at}
 use Rattle.layout.specs.Table.{low_in}
-use Rattle.layout.specs.declared.Shape.{Shape}
+use Rattle.layout.specs.declared.shape.Shape.{Shape}
 use Rattle.model.specs.Directives.{summed_excess}
 use Rattle.model.specs.Job.{Net, low_of}
 use Rattle.model.specs.Limits.{most_capacity, most_nets}

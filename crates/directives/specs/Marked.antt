@@ -9,7 +9,7 @@ use Rattle.std.proofs.Math.ListN.{get_or, length-set}
 use Rattle.std.proofs.Math.Seq.{get_or-set_same, get_or-set_other}
 use Rattle.layout.specs.Areas.{loads_at, demand_at, tiles_at, edge-room}
 use Rattle.layout.specs.Parts.{Outside, set-outside, outside_wider, outside-then, outside-same}
-use Rattle.layout.specs.declared.Shape.{Shape}
+use Rattle.layout.specs.declared.shape.Shape.{Shape}
 use Rattle.model.specs.Job.{Net, low_of}
 use Rattle.model.specs.Lists.{bit, occurs, In, count, has}
 use Rattle.net.specs.Places.{apart}

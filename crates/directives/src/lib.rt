@@ -2,16 +2,14 @@
 // loads of the placing will stand, which are still zero and are zeroed again.
 #![tactic(auto)]
 
-ghost use Rattle.std.specs.Prelude.{true, false, List, [], ◌∷◌, ◌++◌, ◌≡◌, ℕ, suc, ◌+◌, ◌*◌, ◌<◌, ◌≤◌, min, length, get_or};
+ghost use Rattle.std.specs.Prelude.{true, false, List, [], ◌∷◌, ◌++◌, ◌≡◌, ℕ, suc, ◌+◌, ◌*◌, ◌<◌, ◌≤◌, length, get_or};
 ghost use Rattle.cut.specs.Again.{KeptAt};
 ghost use Rattle.layout.specs.Areas.{demand_at, chosen_at};
-ghost use Rattle.layout.specs.Shapes.{Shaped};
 ghost use Rattle.layout.specs.Table.{dropped_in, low_in, table_size};
 ghost use Rattle.marks.specs.Words.{most_stamp};
 ghost use Rattle.model.specs.Job.{Net, Job, net_count, net_of};
 ghost use Rattle.model.specs.Limits.{most_nets};
 ghost use Rattle.model.specs.Lists.{up_from, sum};
-ghost use Rattle.model.specs.Overflow.{over};
 ghost use Rattle.model.specs.Print.{ldof_line};
 ghost use Rattle.model.specs.Read.{Lent, edge_inside};
 ghost use Rattle.net.specs.Dropped.{Unmarked, Remarked};
@@ -25,15 +23,13 @@ ghost use Rattle.directives.specs.Counts.{cell, one_more, marked, marked_net, ma
 ghost use Rattle.directives.specs.Asked.{Asked, AskedSome, SomeNet};
 ghost use Rattle.directives.specs.Counting.{KeptCounted};
 
-use known::Known;
-use layout::Shape;
-use print::Ldof;
+use layout::{Column, Shape};
+use text::Entry;
 
 // ---- the nets that want a layer of an edge
 
 // One more net that wants layer `low`, from 2 on, of an edge.
 fn count_edge(w: &mut [u32], g: Shape, low: usize, edge: usize)
-    requires shaped { Shaped g }
     requires edge_lt_e { (edge < g.e) × (1 ≤ low) × (low ≤ g.k) × (demand_at g ≤ length w.old) × (get_or w.old (cell g edge low) 0 < most_nets) }
     ensures { w.new ≡ one_more g low edge w.old }
 {
@@ -43,7 +39,6 @@ fn count_edge(w: &mut [u32], g: Shape, low: usize, edge: usize)
 
 // The same for the edge that an entry inside the grid names.
 fn count_entry(w: &mut [u32], g: Shape, low: usize, x: usize, y: usize, d: usize)
-    requires shaped { Shaped g }
     requires le_low { (1 ≤ low) × (low ≤ g.k) × (demand_at g ≤ length w.old) × (d ≤ 1) × (edge_inside g.w g.h (triple x y d) ≡ true) }
     requires low_bound { get_or w.old (cell g (edge_of g (triple x y d)) low) 0 < most_nets }
     ensures { w.new ≡ one_more g low (edge_of g (triple x y d)) w.old }
@@ -54,26 +49,18 @@ fn count_entry(w: &mut [u32], g: Shape, low: usize, x: usize, y: usize, d: usize
 
 // One more net that wants layer `low`, whose entries stand at `at`, one or more, and are all its edges.
 fn count_entries(s: &[u8], at: usize, w: &mut [u32], g: Shape, low: usize)
-    requires shaped { Shaped g }
     requires le_low { (1 ≤ low) × (low ≤ g.k) × (demand_at g ≤ length w.old) × Few g low w.old }
     requires edges_there { EdgesThere s.now g at × (get_or s.now at 0 ≡ 10 → ⊥) }
     ensures w_after { (n : Net) → EdgesAt s.now g.w g.h at n → w.new ≡ marked g low n.entries w.old }
     ensures w_len_unchanged { length w.new ≡ length w.old }
 {
-    let mut i = at;
-    loop {
-        let e = known::edge_at(s, i);
+    for e in known::edges_from(s, at) {
         count_entry(w, g, low, e.x, e.y, e.third);
-        if e.last {
-            return;
-        }
-        i = e.next;
     }
 }
 
 // The same of a line that may be empty.
 fn count_line(s: &[u8], at: usize, w: &mut [u32], g: Shape, low: usize)
-    requires shaped { Shaped g }
     requires le_low { (1 ≤ low) × (low ≤ g.k) × (demand_at g ≤ length w.old) × Few g low w.old }
     requires edges_there { EdgesThere s.now g at }
     ensures w_after { (n : Net) → EdgesAt s.now g.w g.h at n → w.new ≡ marked g low n.entries w.old }
@@ -85,8 +72,7 @@ fn count_line(s: &[u8], at: usize, w: &mut [u32], g: Shape, low: usize)
 }
 
 // One more net on the edge of an entry inside the grid, if it is marked under the stamp.
-fn count_if_kept(w: &mut [u32], g: Shape, low: usize, stamp: u32, e: Known)
-    requires shaped { Shaped g }
+fn count_if_kept(w: &mut [u32], g: Shape, low: usize, stamp: u32, e: Entry)
     requires le_low { (1 ≤ low) × (low ≤ g.k) × (chosen_at g ≤ length w.old) × (e.third ≤ 1) × (edge_inside g.w g.h (triple e.x e.y e.third) ≡ true) }
     requires low_bound { get_or w.old (cell g (edge_of g (triple e.x e.y e.third)) low) 0 < most_nets }
     ensures by_index { (w₀ xs : List ℕ) → KeptCounted g low stamp w₀ xs w.old → KeptCounted g low stamp w₀ (xs ++ (edge_of g (triple e.x e.y e.third) ∷ [])) w.new }
@@ -99,41 +85,32 @@ fn count_if_kept(w: &mut [u32], g: Shape, low: usize, stamp: u32, e: Known)
 
 // One more net that wants layer `low`, whose entries stand at `at`, one or more, and whose edges are marked under the stamp.
 fn count_kept(s: &[u8], at: usize, w: &mut [u32], g: Shape, low: usize, stamp: u32)
-    requires shaped { Shaped g }
     requires le_low { (1 ≤ low) × (low ≤ g.k) × (chosen_at g ≤ length w.old) × Few g low w.old }
     requires edges_there { EdgesThere s.now g at × (get_or s.now at 0 ≡ 10 → ⊥) }
     ensures w_after { (n : Net) → KeptAt s.now g at stamp w.old n → w.new ≡ marked g low n.edges w.old }
     ensures w_len_unchanged { length w.new ≡ length w.old }
 {
-    let mut i = at;
-    loop {
-        let e = known::edge_at(s, i);
+    for e in known::edges_from(s, at) {
         count_if_kept(w, g, low, stamp, e);
-        if e.last {
-            return;
-        }
-        i = e.next;
     }
 }
 
 // Net i, counted from 0, which wants a layer above 1 and has dropped entries: its edges are marked again.
 fn count_cut(s: &[u8], w: &mut [u32], g: Shape, table: &[u32], i: usize, stamp: u32)
-    requires shaped { Shaped g }
     requires g_in_bounds { (chosen_at g ≤ length w.old) × (stamp ≤ most_stamp) × Unmarked g stamp w.old }
     requires some_net { SomeNet s.now g w.old table.now i × (0 < dropped_in table.now i) × (1 < low_in table.now i) }
     ensures remarked { (lent : Lent) (j : Job) → Asked s.now g table.now lent j → i < net_count j → Remarked g (stamp + 1) (marked_net g (net_of j (suc i)) w.old) w.new }
     ensures w_len_unchanged { length w.new ≡ length w.old }
 {
     let low = layout::low_in(table, i) as usize;
-    let pins = layout::index(table[layout::pins_column(i)]);
-    let edges = layout::index(table[layout::edges_column(i)]);
+    let pins = table[Column::Pins.at(i)] as usize;
+    let edges = table[Column::Edges.at(i)] as usize;
     cut::mark_net(s, pins, edges, w, g, stamp);
     count_kept(s, edges, w, g, low, stamp);
 }
 
 // Net i, counted from 0: it counts where it wants a layer above 1. `stamp` is that of net 0.
 fn count_net(s: &[u8], w: &mut [u32], g: Shape, table: &[u32], i: usize, stamp: u32)
-    requires shaped { Shaped g }
     requires g_in_bounds { (chosen_at g ≤ length w.old) × (stamp + i ≤ most_stamp) × Unmarked g (stamp + i) w.old }
     requires some_net { SomeNet s.now g w.old table.now i }
     ensures remarked { (lent : Lent) (j : Job) → Asked s.now g table.now lent j → i < net_count j → Remarked g (stamp + i + 1) (marked_net g (net_of j (suc i)) w.old) w.new }
@@ -145,14 +122,13 @@ fn count_net(s: &[u8], w: &mut [u32], g: Shape, table: &[u32], i: usize, stamp: 
             count_cut(s, w, g, table, i, stamp + i as u32);
             return;
         }
-        let at = layout::index(table[layout::edges_column(i)]);
+        let at = table[Column::Edges.at(i)] as usize;
         count_line(s, at, w, g, low);
     }
 }
 
 // All n nets.
 fn count_nets(s: &[u8], w: &mut [u32], g: Shape, table: &[u32], n: usize)
-    requires shaped { Shaped g }
     requires g_in_bounds { (chosen_at g ≤ length w.old) × Unmarked g (suc (3 * n)) w.old }
     requires asked_some { AskedSome s.now g w.old table.now n }
     ensures remarked { (lent : Lent) (j : Job) → Asked s.now g table.now lent j → n ≡ net_count j → Remarked g (suc (4 * n)) (marked_nets g j.nets w.old) w.new }
@@ -165,25 +141,8 @@ fn count_nets(s: &[u8], w: &mut [u32], g: Shape, table: &[u32], n: usize)
 
 // ---- what finds no track
 
-// "The excess of demand over capacity, or 0"
-fn excess_of(demand: u32, room: u32) -> u32
-    ensures { result ≡ over room demand }
-{
-    if demand < room {
-        return 0;
-    }
-    demand - room
-}
-
-fn smaller(a: u32, b: u32) -> u32
-    ensures { result ≡ min a b }
-{
-    if a < b { a } else { b }
-}
-
 // The excess of one edge, summed from the top layer down to layer 2: `room` are the tracks so far, and `served` the nets that find one there.
 fn edge_excess(w: &[u32], g: Shape, edge: usize) -> u32
-    requires shaped { Shaped g }
     requires edge_lt_e { (edge < g.e) × (demand_at g ≤ length w.now) × SmallRooms g w.now edge }
     ensures value { result ≡ excess_in g w.now edge }
     ensures upper_bound { result ≤ 8 * most_nets }
@@ -193,20 +152,18 @@ fn edge_excess(w: &[u32], g: Shape, edge: usize) -> u32
     let mut room = 0u32;
     let mut served = 0u32;
     let mut excess = 0u32;
-    let mut t = g.k;
-    while 1 < t {
-        t -= 1;
+    for t in (1..g.k).rev() {
         room += w[caps + t];
         let demand = w[needs + t] + served;
-        excess += excess_of(demand, room);
-        served = smaller(demand, room);
+        // "The excess of demand over capacity, or 0"
+        excess += demand.saturating_sub(room);
+        served = demand.min(room);
     }
     excess
 }
 
 // "summed over t and edges"
 fn sum_excess(w: &[u32], g: Shape) -> u64
-    requires shaped { Shaped g }
     requires g_in_bounds { (demand_at g ≤ length w.now) × ((e : ℕ) → e < g.e → SmallRooms g w.now e) }
     ensures { result ≡ sum (excess_in g w.now) (up_from 0 g.e) }
 {
@@ -224,29 +181,26 @@ fn any_low(table: &[u32], n: usize) -> bool
     requires { (n ≤ most_nets) × (table_size ≤ length table.now) }
     ensures { result ≡ any_low table.now n }
 {
-    let mut i = 0;
-    while i < n {
+    for i in 0..n {
         if 0 < layout::low_in(table, i) {
             return true;
         }
-        i += 1;
     }
     false
 }
 
-// The last line of the print, for a job whose n nets are scored and not yet placed.
-pub fn ldof_of(s: &[u8], w: &mut [u32], g: Shape, table: &[u32], n: usize) -> Ldof
-    requires shaped { Shaped g }
+// The number of the line `ldof`, where it is printed, for a job whose n nets are scored and not yet placed.
+pub fn ldof_of(s: &[u8], w: &mut [u32], g: Shape, table: &[u32], n: usize) -> Option<u64>
     requires g_in_bounds { (chosen_at g ≤ length w.old) × Unmarked g (suc (3 * n)) w.old }
     requires asked_some { AskedSome s.now g w.old table.now n }
     ensures result_value { (lent : Lent) (j : Job) → Asked s.now g table.now lent j → Capacities g j w.old → n ≡ net_count j → ldof_text result ≡ ldof_line j }
     ensures remarked { Remarked g (suc (4 * n)) w.old w.new }
 {
     if !any_low(table, n) {
-        return Ldof::Absent;
+        return None;
     }
     count_nets(s, w, g, table, n);
     let sum = sum_excess(w, g);
     layout::clear_part(w, layout::loads_at(g), layout::demand_at(g));
-    Ldof::Sum(sum)
+    Some(sum)
 }

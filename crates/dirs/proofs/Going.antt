@@ -8,9 +8,10 @@ use Prim.Native.Nat.{ℕ, zero, suc, ◌+◌, ◌-◌, ◌*◌, ◌^◌, ◌/◌
 use native.Mathlib.Nat.{pow-suc, pow-le-pow_right, mul_assoc, mul-le-mul_right}
 use native.Mathlib.Numerals.{add-one}
 use native.Mathlib.Omega.{arith}
-use borrow.Author.Tests.{leb-false, lt-ltb, le-ltb, eqb-true, ne_eqb}
+use borrow.Author.Tests.{leb-false, eqb-true, ne_eqb}
 use lib.Dec.{leb, eqb, lit<}
 use lib.ListN.{length, drop, get_or}
+use Rattle.std.specs.Prelude.{Some, None}
 use Rattle.scan.specs.Places.{get_d-in}
 use Rattle.layout.specs.Dirs.{digits_of}
 use Rattle.lines.specs.Keyed.{ender}
@@ -29,16 +30,21 @@ ender-comma zero h = absurd (h refl)
 ender-comma (suc n) h = refl
 
 -- where two bytes are not left, no letter stands
-pub letter-out : (s : List ℕ) (at end : ℕ) → 0 < end → leb (at + 2) (length s) ≡ false → 2 ≡ letter_at s at end
+pub letter-out : (s : List ℕ) (at end : ℕ) → 0 < end → leb (at + 2) (length s) ≡ false → None ≡ letter_at s at end
 letter-out s at end pos h = rw (ne_eqb (get_or s (at + 1) 0) end (λ q. omega (arith, get_d-in s (at + 1) end q pos, leb-false (at + 2) (length s) h)))
 
--- a letter with the byte behind it stands in the text
-letter-within : (s : List ℕ) (at end : ℕ) → 0 < end → letter_at s at end ≤ 1 → at + 2 ≤ length s
-letter-within s at end pos h = go (eqb (get_or s (at + 1) 0) end) refl h
+-- a letter with the byte behind it stands in the text, and its way is 0 or 1
+letter-within : (s : List ℕ) (at end w : ℕ) → 0 < end → letter_at s at end ≡ Some w → (at + 2 ≤ length s) × (w ≤ 1)
+letter-within s at end w pos h = go (eqb (get_or s (at + 1) 0) end) refl h
   where
-    go : (q : Bool) → eqb (get_or s (at + 1) 0) end ≡ q → cond q (way_of (get_or s at 0)) 2 ≤ 1 → at + 2 ≤ length s
-    go true e k = omega (arith, get_d-in s (at + 1) end (eqb-true (get_or s (at + 1) 0) end e) pos)
-    go false e k = absurd (omega arith)
+    few : (p q : Bool) → cond p (Some 0) (cond q (Some 1) None) ≡ Some w → w ≤ 1
+    few true q k = let y : 0 ≡ w = cc in omega arith
+    few false true k = let y : 1 ≡ w = cc in omega arith
+    few false false k = cc
+
+    go : (q : Bool) → eqb (get_or s (at + 1) 0) end ≡ q → cond q (way_of (get_or s at 0)) None ≡ Some w → (at + 2 ≤ length s) × (w ≤ 1)
+    go true e k = (omega (arith, get_d-in s (at + 1) end (eqb-true (get_or s (at + 1) 0) end e) pos), few (eqb (get_or s at 0) 104) (eqb (get_or s at 0) 118) k)
+    go false e k = cc
 
 -- ---- one digit
 
@@ -94,24 +100,27 @@ module _ (s : List ℕ) (from k i at mask value : ℕ) (g : Going s from k i at 
     here = ap (λ (n : ℕ). letters_from n s at) left
 
     -- no letter stands here, or another byte behind it
-    pub going-bad : 1 < letter_at s at (ender (k - 1 - i)) → letters_from k s from ≡ none
-    going-bad b = g.same ∙ rw (here, lt-ltb 1 (letter_at s at (ender (k - 1 - i))) b)
+    pub going-bad : letter_at s at (ender (k - 1 - i)) ≡ None → letters_from k s from ≡ none
+    going-bad b = g.same ∙ rw (here, b)
 
     -- a letter stands here, and its way is w
-    pub going_more : (w : ℕ) → w ≡ letter_at s at (ender (k - 1 - i)) → w ≤ 1 → Going s from k (i + 1) (at + 2) (mask + w * value) (2 * value)
-    going_more w e b = record {
+    pub going_more : (w : ℕ) → letter_at s at (ender (k - 1 - i)) ≡ Some w → Going s from k (i + 1) (at + 2) (mask + w * value) (2 * value)
+    going_more w e = record {
       fewer = omega arith;
-      place = letter-within s at (ender (k - 1 - i)) (ender-some (k - 1 - i)) (omega (arith, e));
+      place = within.0;
       bit = rw add-one (omega (arith, g.bit, pow-suc 2 i));
-      small = omega (arith, g.small, mul-le-mul_right value b);
+      small = omega (arith, g.small, mul-le-mul_right value within.1);
       same = all;
     }
       where
+        within : (at + 2 ≤ length s) × (w ≤ 1)
+        within = letter-within s at (ender (k - 1 - i)) w (ender-some (k - 1 - i)) e
+
         one : way_to (letter_at s at (ender (k - 1 - i))) (letters_from (k - 1 - i) s (at + 2)) ≡ join_to (w ∷ []) (letters_from (k - 1 - i) s (at + 2))
-        one = rw (sym e, le-ltb 1 w b)
+        one = rw e
 
         digits : digits_of i mask ++ (w ∷ []) ≡ digits_of (i + 1) (mask + w * value)
-        digits = rw (add-one, g.bit) (sym (digits_more i mask w (omega (arith, g.bit, g.small)) b))
+        digits = rw (add-one, g.bit) (sym (digits_more i mask w (omega (arith, g.bit, g.small)) within.1))
 
         fewer-left : k - 1 - i ≡ k - (i + 1)
         fewer-left = omega arith

@@ -8,8 +8,9 @@ use Prim.Native.Nat.{ℕ, zero, suc, ◌+◌}
 use native.Mathlib.Decide.{ℕ_discrete}
 use native.Mathlib.Omega.{arith}
 use borrow.Author.Tests.{eq-eqb, ne_eqb, eqb-true, eqb-false}
-use lib.Dec.{eqb, ltb}
+use lib.Dec.{eqb}
 use lib.ListN.{length, drop, get_or}
+use Rattle.std.specs.Prelude.{Option as Maybe, Some as Way, None as NoWay}
 use Rattle.model.specs.Lists.{cons_if, every}
 use Rattle.model.specs.Text.{Cut, cut_step, cut_line, on_first, split}
 use Rattle.model.specs.Read.{Result, Reading, refused, found, next, ◌>>=◌, ◌>>◌, give, form, need, value_in, letter, letters}
@@ -96,36 +97,33 @@ abbrev sized : ℕ → Lettered → Lettered
 sized n none = none
 sized n (some c) = cond (eqb (length c.0) n) (some c) none
 
-sized-way : (n w : ℕ) (r : Lettered) → sized (suc n) (way_to w r) ≡ way_to w (sized n r)
-sized-way n w r = go (ltb 1 w) r
+sized-way : (n : ℕ) (o : Maybe ℕ) (r : Lettered) → sized (suc n) (way_to o r) ≡ way_to o (sized n r)
+sized-way n NoWay r = refl
+sized-way n (Way w) r = go r
   where
     test : (c : List ℕ × List ℕ) (q : Bool) → eqb (length c.0) n ≡ q
         → cond (eqb (suc (length c.0)) (suc n)) (some (w ∷ c.0, c.1)) none ≡ join_to (w ∷ []) (cond q (some c) none)
     test c true e = rw (eq-eqb (suc (length c.0)) (suc n) (ap suc (eqb-true (length c.0) n e)))
     test c false e = rw (ne_eqb (suc (length c.0)) (suc n) (λ q. eqb-false (length c.0) n e (omega arith)))
 
-    go : (q : Bool) (r : Lettered) → sized (suc n) (cond q none (join_to (w ∷ []) r)) ≡ cond q none (join_to (w ∷ []) (sized n r))
-    go true r = refl
-    go false none = refl
-    go false (some c) = test c (eqb (length c.0) n) refl
+    go : (r : Lettered) → sized (suc n) (join_to (w ∷ []) r) ≡ join_to (w ∷ []) (sized n r)
+    go none = refl
+    go (some c) = test c (eqb (length c.0) n) refl
 
 -- there is one at least
 some-letter : (t : List ℕ) → sized 0 (letters_of t) ≡ none
-some-letter t = rw (letters-run t) (go (way_of (get_or t 0 0)) (ltb 1 (way_of (get_or t 0 0))) (onward (drop 1 t)))
+some-letter t = rw (letters-run t) (go (way_of (get_or t 0 0)) (onward (drop 1 t)))
   where
-    go : (w : ℕ) (q : Bool) (r : Lettered) → sized 0 (cond q none (join_to (w ∷ []) r)) ≡ none
-    go w true r = refl
-    go w false none = refl
-    go w false (some c) = rw (ne_eqb (suc (length c.0)) 0 (λ q. omega arith))
+    go : (o : Maybe ℕ) (r : Lettered) → sized 0 (way_to o r) ≡ none
+    go NoWay r = refl
+    go (Way w) none = refl
+    go (Way w) (some c) = rw (ne_eqb (suc (length c.0)) 0 (λ q. omega arith))
 
 -- a letter that the byte behind it spoils is as one with nothing behind it
-one_way : (w : ℕ) (p : Bool) (r : Lettered) → way_to (cond p w 2) r ≡ way_to w (cond p r none)
-one_way w true r = refl
-one_way w false r = go (ltb 1 w)
-  where
-    go : (q : Bool) → ◌≡◌ {A = Lettered} none (cond q none none)
-    go true = refl
-    go false = refl
+one_way : (o : Maybe ℕ) (p : Bool) (r : Lettered) → way_to (cond p o NoWay) r ≡ way_to o (cond p r none)
+one_way o true r = refl
+one_way NoWay false r = refl
+one_way (Way w) false r = refl
 
 -- n letters and no more, read one by one
 module _ (s : List ℕ) where

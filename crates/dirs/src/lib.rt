@@ -13,25 +13,22 @@ use text::{Cursor, Fault, Refusal};
 
 // ---- the letters
 
-// The way of the letter at `at`, with the byte `end` behind it: 0 for `h`, 1 for `v`, and 2 where that is not there.
-fn letter_at(s: &[u8], at: usize, end: u8) -> u32
+// The way of the letter at `at`, with the byte `end` behind it, where that is there: 0 for `h`, and 1 for `v`.
+fn letter_at(s: &[u8], at: usize, end: u8) -> Option<u32>
     requires { 0 < end }
     ensures { result ≡ letter_at s.now at end }
 {
     if !text::room(s, at, 2) {
-        return 2;
+        return None;
     }
     if s[at + 1] != end {
-        return 2;
+        return None;
     }
-    let b = s[at];
-    if b == 104 {
-        return 0;
+    match s[at] {
+        b'h' => Some(0),
+        b'v' => Some(1),
+        _ => None,
     }
-    if b == 118 {
-        return 1;
-    }
-    2
 }
 
 // The byte behind a letter after which `more` others come.
@@ -44,15 +41,9 @@ fn end_of(more: usize) -> u8
     44
 }
 
-// The ways of the layers, bit l - 1 for layer l, and the place after their letters.
-#[derive(Clone, Copy)]
-enum Ways {
-    Mask(u32, usize),
-    Malformed,
-}
-
-// The k letters that stand from `from` on, with commas between and byte 10 behind the last.
-fn letters(s: &[u8], from: usize, k: usize) -> Ways
+// The k letters that stand from `from` on, with commas between and byte 10 behind the last: the ways of the layers, bit l - 1 for layer l, and the place
+// after the letters.
+fn letters(s: &[u8], from: usize, k: usize) -> Option<(u32, usize)>
     requires { (from ≤ length s.now) × (k ≤ 8) }
     ensures result_value { ways_told k s.now result ≡ letters_from k s.now from }
     ensures ways_in { ways_in (length s.now) result }
@@ -61,40 +52,27 @@ fn letters(s: &[u8], from: usize, k: usize) -> Ways
     let mut mask = 0u32;
     let mut value = 1u32;
     for i in 0..k {
-        let way = letter_at(s, at, end_of(k - 1 - i));
-        if 1 < way {
-            return Ways::Malformed;
-        }
+        let way = letter_at(s, at, end_of(k - 1 - i))?;
         mask += way * value;
         value = 2 * value;
         at += 2;
     }
-    Ways::Mask(mask, at)
+    Some((mask, at))
 }
 
 // ---- the line
 
-// The directions of the layers, and the place of the next line.
-#[derive(Clone, Copy)]
-pub enum DirsRead {
-    Dirs(Dirs, Cursor),
-    Refused(Refusal),
-}
-
-// The line `dirs` of k layers, where it stands.
-pub fn read_dirs(s: &[u8], c: Cursor, k: usize) -> DirsRead
+// The line `dirs` of k layers, where it stands: the directions of the layers, and the place of the next line.
+pub fn read_dirs(s: &[u8], c: Cursor, k: usize) -> Result<(Option<Dirs>, Cursor), Refusal>
     requires at_in_bounds { (c.at ≤ length s.now) × (c.line < 100) }
     requires le_k { (2 ≤ k) × (k ≤ 8) }
     ensures result_value { dirs_told k s.now result ≡ dirs_line k (place_of s.now c) }
     ensures dirs_hold { dirs_hold (length s.now) c.line k result }
 {
-    let o = lines::open_line(s, c, b"dirs=");
-    if !o.there {
-        return DirsRead::Dirs(Dirs::Any, c);
-    }
-    let line = o.place.line;
-    match letters(s, o.place.at, k) {
-        Ways::Malformed => DirsRead::Refused(Refusal::Line(Fault::Form, line)),
-        Ways::Mask(m, at) => DirsRead::Dirs(Dirs::Given(m), Cursor { at, line }),
-    }
+    let Some(d) = lines::open_line(s, c, b"dirs=") else {
+        return Ok((None, c));
+    };
+    let line = d.line;
+    let (north, at) = letters(s, d.at, k).ok_or(Refusal::Line(Fault::Form, line))?;
+    Ok((Some(Dirs { north }), Cursor { at, line }))
 }

@@ -9,27 +9,24 @@ use native.Mathlib.Omega.{arith}
 use borrow.Author.Tests.{lt-ltb, le-ltb, eqb-false, eq-eqb, ne_eqb}
 use lib.Dec.{eqb, ltb}
 use lib.ListN.{length, drop, get_or}
+use Rattle.std.specs.Prelude.{Some, None, Option as Maybe}
 use Rattle.layout.specs.Dirs.{digits_of, dirs_of}
 use Rattle.layout.specs.Shapes.{sizes_of, Shaped}
-use Rattle.layout.specs.declared.Dirs.{Dirs}
-use Rattle.layout.specs.declared.Dirs.TheVariants.{Any, Given}
-use Rattle.layout.specs.declared.Shape.{Shape}
+use Rattle.layout.specs.declared.shape.Dirs.{Dirs}
+use Rattle.layout.specs.declared.shape.Shape.{Shape}
 use Rattle.model.specs.Grid.{east_count, east_edge, north_edge}
 use Rattle.model.specs.Job.{group_in, runs}
 use Rattle.model.specs.Lists.{up_from, all, any}
 use Rattle.model.specs.Read.{Triple, edge_inside, edge_at, has_layer}
-use Rattle.scan.specs.Edges.{edge-is}
+use Rattle.scan.specs.Edges.{edge-is, edge_told, edge-way}
 use Rattle.scan.specs.First.{some-none, front, one_line, all_first}
 use Rattle.scan.specs.Inside.{false-true}
 use Rattle.scan.specs.Pins.{triple}
 use Rattle.scan.specs.Places.{drop-byte, head-drop}
 use Rattle.scan.specs.Ways.{edges_of, edges-empty, edges_some}
 use Rattle.text.specs.Entries.{edge_entry_at}
-use Rattle.text.specs.Items.{entry_of, entry-is}
-use Rattle.text.specs.declared.Entry.TheVariants.{More, Last, Bad}
-use Rattle.text.specs.declared.Item.{Item}
+use Rattle.text.specs.declared.Entry.{Entry}
 use Rattle.ways.specs.Entry.{placed}
-use Rattle.edges.specs.Entries.{item-fits}
 use Rattle.edges.specs.Reading.{edges_on}
 use Rattle.edges.specs.Served.{way_on, goes, EntriesAt}
 use Rattle.edges.specs.declared.Edges.{Edges}
@@ -48,53 +45,46 @@ Left s way from i =
     (ts : List Triple) (rest : List ℕ) → edges_of (drop from s) ≡ some (ts, rest)
     → (us : List Triple) × (edges_of (drop i s) ≡ some (us, rest)) × (all (goes way) ts ≡ all (goes way) us)
 
--- nothing is read yet
-pub left-start : (s : List ℕ) (way from : ℕ) → Left s way from from
-left-start s way from ts rest h = (ts, h, refl)
-
 module _ (s : List ℕ) (way from i : ℕ) (left : Left s way from i) where
   -- an entry is there always
-  pub left-bad : Bad ≡ edge_entry_at s i → (ts : List Triple) (rest : List ℕ) → edges_of (drop from s) ≡ some (ts, rest) → true ≡ all (goes way) ts
-  left-bad e ts rest h = let k = left ts rest h in some-none (k.0, rest) (sym k.1 ∙ edge-is s i Bad e)
+  pub left-bad : None ≡ edge_entry_at s i → (ts : List Triple) (rest : List ℕ) → edges_of (drop from s) ≡ some (ts, rest) → true ≡ all (goes way) ts
+  left-bad e ts rest h = let k = left ts rest h in some-none (k.0, rest) (sym k.1 ∙ edge-is s i None e)
 
   -- the entry at i
-  module _ (r : Item) (good : r.good ≡ true) (is : entry_of r ≡ edge_entry_at s i) where
+  module _ (r : Entry) (is : Some r ≡ edge_entry_at s i) where
     abbrev here : Triple
-    here = triple r.x r.y r.z
+    here = triple r.x r.y r.third
 
-    goes-here : goes way (triple r.x r.y r.z) ≡ eqb r.z way
-    goes-here = ap (λ (d : ℕ). eqb d way) (way-read r.z (item-fits s i r good is).0)
+    goes-here : goes way (triple r.x r.y r.third) ≡ eqb r.third way
+    goes-here = ap (λ (d : ℕ). eqb d way) (way-read r.third (edge-way s i (Some r) is))
 
     only : r.last ≡ true → (us : List Triple) (rest : List ℕ) → edges_of (drop i s) ≡ some (us, rest) → us ≡ here ∷ []
-    only last us rest h = one_line us (here ∷ []) rest (drop r.next s) (sym h ∙ edge-is s i (Last r.x r.y r.z r.next) (entry-is r (edge_entry_at s i) true true good last is))
+    only last us rest h = one_line us (here ∷ []) rest (drop r.next s) (sym h ∙ edge_told s i r is true last)
 
     module _ (last : r.last ≡ false) where
-      more : More r.x r.y r.z r.next ≡ edge_entry_at s i
-      more = entry-is r (edge_entry_at s i) true false good last is
-
       behind : (us : List Triple) (rest : List ℕ) → edges_of (drop i s) ≡ some (us, rest)
           → (vs : List Triple) × (edges_of (drop r.next s) ≡ some (vs, rest)) × (us ≡ here ∷ vs)
-      behind us rest h = front here (edges_of (drop r.next s)) us rest (sym h ∙ (edge-is s i (More r.x r.y r.z r.next) more).0)
+      behind us rest h = front here (edges_of (drop r.next s)) us rest (sym h ∙ (edge_told s i r is false last).0)
 
       -- the place after it
       pub left-place : (i < r.next) × (r.next ≤ length s)
-      left-place = let k = edge-is s i (More r.x r.y r.z r.next) more in (k.1, k.2)
+      left-place = let k = edge_told s i r is false last in (k.1, k.2)
 
     -- it goes the other way
-    pub left_other : (r.z ≡ way → ⊥) → (ts : List Triple) (rest : List ℕ) → edges_of (drop from s) ≡ some (ts, rest) → false ≡ all (goes way) ts
+    pub left_other : (r.third ≡ way → ⊥) → (ts : List Triple) (rest : List ℕ) → edges_of (drop from s) ≡ some (ts, rest) → false ≡ all (goes way) ts
     left_other n ts rest h = let k = left ts rest h in sym (k.2 ∙ go r.last refl k.0 k.1)
       where
         no_way : (vs : List Triple) → all (goes way) (here ∷ vs) ≡ false
-        no_way vs = rw (goes-here ∙ ne_eqb r.z way n)
+        no_way vs = rw (goes-here ∙ ne_eqb r.third way n)
 
         go : (q : Bool) → r.last ≡ q → (us : List Triple) → edges_of (drop i s) ≡ some (us, rest) → all (goes way) us ≡ false
         go true e us k = rw (only e us rest k) (no_way [])
         go false e us k = let b = behind e us rest k in rw b.2 (no_way b.0)
 
     -- it goes this way
-    module _ (e : r.z ≡ way) where
+    module _ (e : r.third ≡ way) where
       this-way : (vs : List Triple) → all (goes way) (here ∷ vs) ≡ all (goes way) vs
-      this-way vs = rw (goes-here ∙ eq-eqb r.z way e)
+      this-way vs = rw (goes-here ∙ eq-eqb r.third way e)
 
       pub left-last : r.last ≡ true → (ts : List Triple) (rest : List ℕ) → edges_of (drop from s) ≡ some (ts, rest) → true ≡ all (goes way) ts
       left-last last ts rest h = let k = left ts rest h in sym (k.2 ∙ ap (all (goes way)) (only last k.0 rest k.1) ∙ this-way [])
@@ -108,18 +98,18 @@ module _ (s : List ℕ) (way from i : ℕ) (left : Left s way from i) where
 -- ---- whether all entries have a layer
 
 -- some of k layers runs this way
-abbrev pub some_layer : ℕ → Dirs → ℕ → Bool
+abbrev pub some_layer : ℕ → Maybe Dirs → ℕ → Bool
 some_layer k d way = any (runs (dirs_of k d) way) (up_from 1 k)
 
 -- where none runs east, the first runs north
-pub north-runs : (k : ℕ) (d : Dirs) → 1 ≤ k → some_layer k d 0 ≡ false → some_layer k d 1 ≡ true
+pub north-runs : (k : ℕ) (d : Maybe Dirs) → 1 ≤ k → some_layer k d 0 ≡ false → some_layer k d 1 ≡ true
 north-runs zero d h e = absurd (omega arith)
-north-runs (suc k) Any h e = refl
-north-runs (suc k) (Given m) h e = go (eqb (m % 2) 0) refl e
+north-runs (suc k) None h e = refl
+north-runs (suc k) (Some d) h e = go (eqb (d.north % 2) 0) refl e
   where
-    go : (q : Bool) → eqb (m % 2) 0 ≡ q → cond q true (any (runs (some (digits_of (suc k) m)) 0) (up_from 2 k)) ≡ false → some_layer (suc k) (Given m) 1 ≡ true
+    go : (q : Bool) → eqb (d.north % 2) 0 ≡ q → cond q true (any (runs (some (digits_of (suc k) d.north)) 0) (up_from 2 k)) ≡ false → some_layer (suc k) (Some d) 1 ≡ true
     go true z n = absurd (false-true (sym n))
-    go false z n = let one : m % 2 ≡ 1 = omega (arith, eqb-false (m % 2) 0 z) in rw (eq-eqb (m % 2) 1 one) refl
+    go false z n = let one : d.north % 2 ≡ 1 = omega (arith, eqb-false (d.north % 2) 0 z) in rw (eq-eqb (d.north % 2) 1 one) refl
 
 module _ (g : Shape) (shaped : Shaped g) where
   abbrev W : ℕ

@@ -8,8 +8,9 @@ use Prim.Native.Nat.{ℕ, suc, ◌+◌, ◌≤◌}
 use native.Mathlib.Omega.{arith}
 use lib.Dec.{eqb}
 use lib.ListN.{length, drop, get_or, drop_of_length-le, length-map}
+use Rattle.std.specs.Prelude.{Some, Ok, Err, Result as Outcome}
 use Rattle.layout.specs.Shapes.{sizes_of}
-use Rattle.layout.specs.declared.Shape.{Shape}
+use Rattle.layout.specs.declared.shape.Shape.{Shape}
 use Rattle.model.specs.Job.{Pin}
 use Rattle.model.specs.Lists.{all, twice}
 use Rattle.model.specs.Read.{Place, Result, refused, found, Reading as Reads, next, ◌>>=◌, ◌>>◌, give, form, need, line, Sizes, Triple, edge_entries, edge_inside, edge_at, has_layer, edges_line}
@@ -18,20 +19,18 @@ use Rattle.model.specs.Tree.{joined}
 use Rattle.scan.specs.Lines.{Lined}
 use Rattle.scan.specs.Places.{drop-byte, get_d-in, head-drop}
 use Rattle.scan.specs.Ways.{edges_of, edges_cut, edges_in, edges_ranged, edges_key, ranged, edges-law, edges_some}
-use Rattle.lines.specs.Opens.{place-within, key-there, key-other}
-use Rattle.lines.specs.Reads.{opened_of}
-use Rattle.lines.specs.declared.Opened.{Opened}
+use Rattle.lines.specs.Opens.{place-is, place-within, key-there, key-other, expected-there, expected-other}
+use Rattle.lines.specs.Reads.{opened_of, expected_of}
+use Rattle.lines.specs.Told.{refused_by}
 use Rattle.text.specs.Refusals.{place_of}
 use Rattle.text.specs.declared.Cursor.{Cursor}
 use Rattle.text.specs.declared.Fault.TheVariants.{Form, NoLayer}
 use Rattle.text.specs.declared.Refusal.{Refusal}
-use Rattle.text.specs.declared.Refusal.TheVariants.{Line as OnLine}
-use Rattle.edges.specs.Line.{judged_line, verdict_by, EntriesRead, JoinedFound, JoinedRead, LineRead}
+use Rattle.text.specs.declared.Refusal.TheVariants.{Line}
+use Rattle.edges.specs.Line.{EdgesRead, judged_line, verdict_by, EntriesRead, JoinedFound, JoinedRead, LineRead}
 use Rattle.edges.specs.Reading.{Reading, edges_on}
 use Rattle.edges.specs.Served.{EntriesAt}
 use Rattle.edges.specs.declared.Edges.{Edges}
-use Rattle.edges.specs.declared.EdgesRead.{EdgesRead}
-use Rattle.edges.specs.declared.EdgesRead.TheVariants.{Line, Refused}
 use Rattle.edges.specs.declared.Judged.TheVariants.{Fine}
 use Rattle.edges.proofs.Loop.{shown-start, read-end}
 
@@ -102,21 +101,27 @@ module _ (z : Sizes) (ps : List Pin) where
       go false = refl
 
   -- the line that was opened at c
-  module _ (s : List ℕ) (c : Cursor) (o : Opened) (e : o ≡ opened_of s c (bytes "edges=")) where
+  module _ (s : List ℕ) (c : Cursor) (o : Outcome Cursor Refusal) (e : o ≡ expected_of s c (bytes "edges=")) where
     reads : edges_line z ps (place_of s c) ≡ next (edges_key W H (suc c.line) (behind (bytes "edges=") (drop c.at s))) tested
     reads = ranged-then _ ∙ ap (λ (r : Result (List Triple)). next r tested) (edges-law W H c.line (drop c.at s))
 
-    line_other : o.there ≡ false → edges_line z ps (place_of s c) ≡ refused 2 o.place.line
-    line_other t = reads ∙ key-other s c (bytes "edges=") o e (λ n u. next (edges_key W H n u) tested) t
+    line_other : (x : Refusal) → o ≡ Err x → edges_line z ps (place_of s c) ≡ refused_by x
+    line_other x h =
+        let p = expected-other s c (bytes "edges=") x (sym e ∙ h) in
+        rw p.1 (reads ∙ key-other s c (bytes "edges=") p.0 (λ n u. next (edges_key W H n u) tested))
 
-    line-there : o.there ≡ true → edges_line z ps (place_of s c) ≡ next (judged_line W H ps o.place.line (edges_cut (cut_line (drop o.place.at s)))) layered
-    line-there t = reads ∙ key-there s c (bytes "edges=") o e (λ n u. next (edges_key W H n u) tested) t ∙ judged-then o.place.line (edges_cut (cut_line (drop o.place.at s)))
+    module _ (d : Cursor) (h : o ≡ Ok d) where
+      there : opened_of s c (bytes "edges=") ≡ Some d
+      there = expected-there s c (bytes "edges=") d (sym e ∙ h)
+
+      line-there : edges_line z ps (place_of s c) ≡ next (judged_line W H ps d.line (edges_cut (cut_line (drop d.at s)))) layered
+      line-there = reads ∙ key-there s c (bytes "edges=") d there (λ n u. next (edges_key W H n u) tested) ∙ judged-then d.line (edges_cut (cut_line (drop d.at s)))
 
 -- ---- the value, from c on
 
 module _ (g : Shape) (n : ℕ) (s : List ℕ) (c : Cursor) (ps : List Pin) (w₀ w : List ℕ) where
   -- the text ends there
-  pub list-short : length s ≤ c.at → EntriesRead g n s c ps w₀ w (edges_cut (cut_line (drop c.at s))) (Refused (OnLine Form c.line))
+  pub list-short : length s ≤ c.at → EntriesRead g n s c ps w₀ w (edges_cut (cut_line (drop c.at s))) (Err (Line Form c.line))
   list-short h = rw (drop_of_length-le s {i = c.at} h)
 
   -- a line without entries
@@ -133,14 +138,14 @@ module _ (g : Shape) (n : ℕ) (s : List ℕ) (c : Cursor) (ps : List Pin) (w₀
 
 -- ---- the line
 
-module _ (g : Shape) (n : ℕ) (s : List ℕ) (c : Cursor) (o : Opened) (e : o ≡ opened_of s c (bytes "edges=")) (ps : List Pin) (w₀ w : List ℕ) where
-  pub read-other : o.there ≡ false → JoinedRead g n s c ps w₀ w (Refused (OnLine Form o.place.line))
-  read-other t = line_other (sizes_of g) ps s c o e t
+module _ (g : Shape) (n : ℕ) (s : List ℕ) (c : Cursor) (o : Outcome Cursor Refusal) (e : o ≡ expected_of s c (bytes "edges=")) (ps : List Pin) (w₀ w : List ℕ) where
+  pub read-other : (x : Refusal) → o ≡ Err x → JoinedRead g n s c ps w₀ w (Err x)
+  read-other x h = line_other (sizes_of g) ps s c o e x h
 
-  pub read-there : c.at ≤ length s → o.there ≡ true → (r : EdgesRead) → EntriesRead g n s o.place ps w₀ w (edges_cut (cut_line (drop o.place.at s))) r → JoinedRead g n s c ps w₀ w r
-  read-there h t (Refused f) k = line-there (sizes_of g) ps s c o e t ∙ ap (λ (r : Result (List ℕ)). next r (layered (sizes_of g) ps)) k
-  read-there h t (Line i d) k = record {
-    from_in = omega (arith, k.0, place-within s c (bytes "edges=") o e h t);
+  pub read-there : c.at ≤ length s → (b : Cursor) → o ≡ Ok b → (r : EdgesRead) → EntriesRead g n s b ps w₀ w (edges_cut (cut_line (drop b.at s))) r → JoinedRead g n s c ps w₀ w r
+  read-there h b t (Err f) k = line-there (sizes_of g) ps s c o e b t ∙ ap (λ (r : Result (List ℕ)). next r (layered (sizes_of g) ps)) k
+  read-there h b t (Ok x) k = record {
+    from_in = omega (arith, k.0, place-within s c (bytes "edges=") b (there (sizes_of g) ps s c o e b t) h);
     line = record {
       entries = k.1.entries;
       text = ap (λ (m : ℕ). edges_cut (cut_line (drop m s))) k.0 ∙ k.1.text;
@@ -149,25 +154,25 @@ module _ (g : Shape) (n : ℕ) (s : List ℕ) (c : Cursor) (o : Opened) (e : o �
       ring_told = k.1.ring_told;
       reached = k.1.reached;
       count_is = k.1.count_is;
-      after = record { place = k.1.after.place; lines = k.1.after.lines ∙ ap (λ (x : Opened). x.place.line) e };
+      after = record { place = k.1.after.place; lines = k.1.after.lines ∙ ap (λ (y : Cursor). y.line) (place-is s c (bytes "edges=") b (there (sizes_of g) ps s c o e b t)) };
       reading = k.1.reading;
     };
-    left = line-there (sizes_of g) ps s c o e t
+    left = line-there (sizes_of g) ps s c o e b t
         ∙ ap (λ (r : Result (List ℕ)). next r (layered (sizes_of g) ps)) judged
-        ∙ layered-then (sizes_of g) ps (edges_on g k.1.entries) (place_of s d);
+        ∙ layered-then (sizes_of g) ps (edges_on g k.1.entries) (place_of s x.1);
   }
     where
-      judged : judged_line g.w g.h ps o.place.line (edges_cut (cut_line (drop o.place.at s))) ≡ found (edges_on g k.1.entries) (place_of s d)
+      judged : judged_line g.w g.h ps b.line (edges_cut (cut_line (drop b.at s))) ≡ found (edges_on g k.1.entries) (place_of s x.1)
       judged = rw (k.1.text, k.1.inside, k.1.once, k.1.reached, k.1.after.lines)
 
 -- ---- the last test
 
 module _ (g : Shape) (n : ℕ) (s : List ℕ) (c : Cursor) (ps : List Pin) (w₀ w : List ℕ) where
   -- a refusal before it is the line's
-  pub line_refused : (r : EdgesRead) → JoinedRead g n s c ps w₀ w r → (f : Refusal) → r ≡ Refused f → LineRead g n s c ps w₀ w (Refused f)
+  pub line_refused : (r : EdgesRead) → JoinedRead g n s c ps w₀ w r → (f : Refusal) → r ≡ Err f → LineRead g n s c ps w₀ w (Err f)
   line_refused r k f q = rw q at k
 
-  module _ (r : EdgesRead) (k : JoinedRead g n s c ps w₀ w r) (e : Edges) (d : Cursor) (q : r ≡ Line e d) where
+  module _ (r : EdgesRead) (k : JoinedRead g n s c ps w₀ w r) (e : Edges) (d : Cursor) (q : r ≡ Ok (e, d)) where
     joined-found : JoinedFound g n s c ps w₀ w e d
     joined-found = rw q at k
 
@@ -184,7 +189,7 @@ module _ (g : Shape) (n : ℕ) (s : List ℕ) (c : Cursor) (ps : List Pin) (w₀
       layers-are = sym (served joined-found.line.entries entries_at)
 
       -- every edge has a layer
-      pub line-served : b ≡ true → LineRead g n s c ps w₀ w (Line e d)
+      pub line-served : b ≡ true → LineRead g n s c ps w₀ w (Ok (e, d))
       line-served t = record {
         from_in = joined-found.from_in;
         line = joined-found.line;
@@ -192,5 +197,5 @@ module _ (g : Shape) (n : ℕ) (s : List ℕ) (c : Cursor) (ps : List Pin) (w₀
       }
 
       -- some edge has none
-      pub line-unserved : b ≡ false → LineRead g n s c ps w₀ w (Refused (OnLine NoLayer d.line))
+      pub line-unserved : b ≡ false → LineRead g n s c ps w₀ w (Err (Line NoLayer d.line))
       line-unserved t = joined-found.left ∙ rw (layers-are ∙ t)

@@ -1,4 +1,3 @@
-mod Grid
 mod Turns
 mod Loop
 mod Law

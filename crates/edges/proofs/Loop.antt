@@ -3,14 +3,15 @@
 use mathlib.Core.Bool.{Bool, true, false, cond}
 use mathlib.Core.List.{List, [], ◌∷◌, ◌++◌}
 use mathlib.Core.Option.{some}
-use mathlib.Core.Path.{◌≡◌, refl, sym, ap, ◌∙◌}
+use mathlib.Core.Path.{◌≡◌, refl, sym, ◌∙◌}
 use Prim.Native.Nat.{ℕ, ◌+◌, ◌≤◌}
 use native.Mathlib.Omega.{arith}
-use borrow.Author.Tests.{eqb-true, eq-eqb, ne_eqb}
+use borrow.Author.Tests.{eqb-true}
 use lib.Dec.{eqb}
 use lib.ListN.{length, drop, length-append, length-map}
+use Rattle.std.specs.Prelude.{Some, None, Ok, Err}
 use Rattle.layout.specs.Shapes.{Shaped}
-use Rattle.layout.specs.declared.Shape.{Shape}
+use Rattle.layout.specs.declared.shape.Shape.{Shape}
 use Rattle.marks.specs.Words.{most_stamp}
 use Rattle.model.specs.Job.{Pin}
 use Rattle.model.specs.Lists.{all, twice}
@@ -21,16 +22,14 @@ use Rattle.scan.specs.Ways.{edges_of}
 use Rattle.lines.specs.Told.{After}
 use Rattle.text.specs.Entries.{edge_entry_at}
 use Rattle.text.specs.declared.Cursor.{Cursor}
-use Rattle.text.specs.declared.Entry.TheVariants.{More, Last, Bad as Empty}
+use Rattle.text.specs.declared.Entry.{Entry}
 use Rattle.text.specs.declared.Fault.TheVariants.{Form, Apart}
-use Rattle.text.specs.declared.Refusal.TheVariants.{Line as OnLine}
+use Rattle.text.specs.declared.Refusal.TheVariants.{Line}
 use Rattle.theory.specs.links.Counted.{counted-joined}
 use Rattle.theory.specs.links.Roots.{ring-none}
 use Rattle.edges.specs.Entries.{before, before-none, entry-fits, text-bad, text-last, text-more, place-more}
-use Rattle.edges.specs.Line.{judged_line, reached_by, verdict_by, verdict_of, EntriesRead}
+use Rattle.edges.specs.Line.{EdgesRead, judged_line, reached_by, verdict_by, verdict_of, EntriesRead}
 use Rattle.edges.specs.Reading.{Reading, Few, Begun, Going, Shown, GoesOn, Ready, edges_on}
-use Rattle.edges.specs.declared.EdgesRead.{EdgesRead}
-use Rattle.edges.specs.declared.EdgesRead.TheVariants.{Line, Refused}
 use Rattle.edges.specs.declared.Judged.{Judged}
 use Rattle.edges.specs.declared.Judged.TheVariants.{Fine, Ring, Twice, Range}
 use Rattle.edges.specs.declared.Seen.{Seen}
@@ -57,7 +56,7 @@ module _ (g : Shape) (n : ℕ) (s : List ℕ) (ps : List Pin) (some_pin : 1 ≤ 
   reach-end ringed k told = go (eqb parts 1) refl
     where
       go : (q : Bool) → eqb parts 1 ≡ q
-          → EntriesRead g n s c ps w₀ w (some (ts, drop d.at s)) (cond q (Line (record { from = c.at; entries = entries; ring = ringed }) d) (Refused (OnLine Apart d.line)))
+          → EntriesRead g n s c ps w₀ w (some (ts, drop d.at s)) (cond q (Ok (record { from = c.at; entries = entries; ring = ringed }, d)) (Err (Line Apart d.line)))
       go true e = (
         refl,
         record {
@@ -112,49 +111,36 @@ module _ (g : Shape) (n parts : ℕ) (s : List ℕ) (c : Cursor) (w₀ : List �
     passed-ready shaped small few begun on =
         shown-ready g n begun.0 w₀ passed.entries v.parts w shaped small begun.1 few v.judged (passed.shown begun.0 w₀ begun.1 begun.2) on
 
-    pub passed-bad : Empty ≡ edge_entry_at s i → (ps : List Pin) (b : List ℕ) → EntriesRead g n s c ps b w (edges_of (drop c.at s)) (Refused (OnLine Form c.line))
+    pub passed-bad : None ≡ edge_entry_at s i → (ps : List Pin) (b : List ℕ) → EntriesRead g n s c ps b w (edges_of (drop c.at s)) (Err (Line Form c.line))
     passed-bad e ps b = rw (text-bad s c.at i passed.entries passed.text e)
 
     -- one entry more
-    module _ (x y d next : ℕ) (w' : List ℕ) (v' : Seen) (long : length w' ≡ length w) (one_more : v'.entries ≡ v.entries + 1)
-        (shown : (ps : List Pin) (b : List ℕ) (ts : List Triple) → Shown g n ps b ts v.parts w v.judged → Shown g n ps b (ts ++ (triple x y d ∷ [])) v'.parts w' v'.judged) where
-      counts : v'.entries ≡ length (passed.entries ++ (triple x y d ∷ []))
-      counts = omega (arith, passed.count, length-append passed.entries (triple x y d ∷ []))
+    module _ (k : Entry) (is : Some k ≡ edge_entry_at s i) (w' : List ℕ) (v' : Seen) (long : length w' ≡ length w) (one_more : v'.entries ≡ v.entries + 1)
+        (shown : (ps : List Pin) (b : List ℕ) (ts : List Triple) → Shown g n ps b ts v.parts w v.judged → Shown g n ps b (ts ++ (triple k.x k.y k.third ∷ [])) v'.parts w' v'.judged) where
+      abbrev here : Triple
+      here = triple k.x k.y k.third
 
-      pub passed-more : More x y d next ≡ edge_entry_at s i → Passed g n parts s c w₀ w' next v'
+      counts : v'.entries ≡ length (passed.entries ++ (triple k.x k.y k.third ∷ []))
+      counts = omega (arith, passed.count, length-append passed.entries (here ∷ []))
+
+      pub passed-more : k.last ≡ false → Passed g n parts s c w₀ w' k.next v'
       passed-more e =
-          let p = place-more s c.at i passed.entries passed.text x y d next e in
-          let q = entry-fits s i (More x y d next) e in
+          let p = place-more s c.at i passed.entries passed.text k is e in
+          let q = entry-fits s i (Some k) is in
           record {
             long = long ∙ passed.long;
             place = omega (arith, p, passed.place);
             few = omega (arith, p, q.1, passed.place);
-            entries = passed.entries ++ (triple x y d ∷ []);
-            text = text-more s c.at i passed.entries passed.text x y d next e;
+            entries = passed.entries ++ (here ∷ []);
+            text = text-more s c.at i passed.entries passed.text k is e;
             count = counts;
             shown = λ ps b h r. shown ps b passed.entries (passed.shown ps b h r);
           }
 
-      pub passed-last : Last x y d next ≡ edge_entry_at s i → (r : EdgesRead) → r ≡ verdict_of v' c.at (record { at = next; line = c.line }) → (ps : List Pin) (b : List ℕ) → 1 ≤ length ps → Reading g n ps [] parts b w₀
+      pub passed-last : k.last ≡ true → (r : EdgesRead) → r ≡ verdict_of v' c.at (record { at = k.next; line = c.line }) → (ps : List Pin) (b : List ℕ) → 1 ≤ length ps → Reading g n ps [] parts b w₀
           → EntriesRead g n s c ps b w' (edges_of (drop c.at s)) r
       passed-last e r h ps b some_pin reading =
-          rw (h, text-last s c.at i passed.entries passed.text x y d next e)
-          (read-end g n s ps some_pin b w' (passed.entries ++ (triple x y d ∷ [])) c (record { at = next; line = c.line })
-          (record { place = (entry-fits s i (Last x y d next) e).1; lines = refl }) v'.parts v'.entries counts v'.judged
+          rw (h, text-last s c.at i passed.entries passed.text k is e)
+          (read-end g n s ps some_pin b w' (passed.entries ++ (here ∷ [])) c (record { at = k.next; line = c.line })
+          (record { place = (entry-fits s i (Some k) is).1; lines = refl }) v'.parts v'.entries counts v'.judged
           (shown ps b passed.entries (passed.shown ps b some_pin reading)))
-
--- ---- the verdict as the code has it
-
-module _ (v : Seen) (from : ℕ) (c : Cursor) where
-  pub verdict-is : (j : Judged) → v.judged ≡ j → verdict_by j v.parts v.entries from c ≡ verdict_of v from c
-  verdict-is j e = sym (ap (λ (k : Judged). verdict_by k v.parts v.entries from c) e)
-
-  module _ (ringed : Bool) where
-    abbrev reached : Bool → EdgesRead
-    reached q = cond q (Line (record { from = from; entries = v.entries; ring = ringed }) c) (Refused (OnLine Apart c.line))
-
-    pub reach-apart : (v.parts ≡ 1 → ⊥) → Refused (OnLine Apart c.line) ≡ reached_by v.parts v.entries from c ringed
-    reach-apart h = sym (ap reached (ne_eqb v.parts 1 h))
-
-    pub reach-line : v.parts ≡ 1 → Line (record { from = from; entries = v.entries; ring = ringed }) c ≡ reached_by v.parts v.entries from c ringed
-    reach-line h = sym (ap reached (eq-eqb v.parts 1 h))

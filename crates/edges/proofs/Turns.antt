@@ -7,10 +7,11 @@ use Prim.Native.Nat.{ℕ, ◌+◌, ◌≤◌, ◌<◌}
 use native.Mathlib.Omega.{arith}
 use lib.Dec.{eqb}
 use lib.ListN.{length, get_or, set, length-set}
+use Rattle.std.specs.Prelude.{Some, None}
 use Rattle.layout.specs.Areas.{demand_at, tiles_at, links_at, chosen_at, tiles_of, links_of}
 use Rattle.layout.specs.Parts.{Outside}
 use Rattle.layout.specs.Shapes.{Shaped, way_of}
-use Rattle.layout.specs.declared.Shape.{Shape}
+use Rattle.layout.specs.declared.shape.Shape.{Shape}
 use Rattle.marks.specs.Marks.{marked, mark}
 use Rattle.marks.specs.Words.{most_stamp}
 use Rattle.model.specs.Job.{Pin}
@@ -26,7 +27,6 @@ use Rattle.theory.specs.walk.Joined.{ends}
 use Rattle.union.specs.Links.{Merged}
 use Rattle.ways.specs.Ends.{ends_of, ends_after, first-mark, twice-marked, new-marked}
 use Rattle.ways.specs.Entry.{start_of, edge_of, Placed, placed}
-use Rattle.ways.specs.declared.Ends.TheVariants.{Twice as Marked, New}
 use Rattle.edges.specs.Lists.{all_snoc, twice-snoc}
 use Rattle.edges.specs.Reading.{Reading, Few, Going, Shown, goes_on, GoesOn, Ready, edges_on}
 use Rattle.edges.specs.Steps.{counted-most, counted-some, marked-has, ring-then, reading-then}
@@ -74,12 +74,6 @@ after_stop g n ps w₀ ts parts w t Fine e i s = absurd (false-true (sym e))
 after_stop g n ps w₀ ts parts w t Ring e i s = absurd (false-true (sym e))
 after_stop g n ps w₀ ts parts w t Twice e i s = (all_in g ts t s.0 i, still-twice g ts t s.1)
 after_stop g n ps w₀ ts parts w t Range e i s = still-out g ts t s
-
-pub still-going : (j : Judged) → goes_on j ≡ true → GoesOn j
-still-going Fine e = tt
-still-going Ring e = tt
-still-going Twice e = absurd (false-true e)
-still-going Range e = absurd (false-true e)
 
 -- ---- where the marks go on
 
@@ -144,14 +138,14 @@ module _ (g : Shape) (shaped : Shaped g) (n : ℕ) (t : Triple) (inside : edge_i
 
   module _ (w : List ℕ) (room : chosen_at g ≤ length w) where
     -- the edge is marked already
-    pub add_twice : Marked ≡ ends_of n (tiles_of g w) here there t.third → (j : Judged) → GoesOn j → (ps : List Pin) (w₀ : List ℕ) (ts : List Triple) (parts parts' : ℕ) (w' : List ℕ)
+    pub add_twice : None ≡ ends_of n (tiles_of g w) here there t.third → (j : Judged) → GoesOn j → (ps : List Pin) (w₀ : List ℕ) (ts : List Triple) (parts parts' : ℕ) (w' : List ℕ)
         → Shown g n ps w₀ ts parts w j → Shown g n ps w₀ (ts ++ (t ∷ [])) parts' w' Twice
     add_twice e j o ps w₀ ts parts parts' w' s =
         let k = (goes_on_lem g n ps w₀ ts parts w j o s).0 in
         let m = rw here-low at (twice-marked n (tiles_of g w) here there t.third e) in
         (all_in g ts t k.inside inside, now-twice g ts t (sym (marked-has g shaped n ps (edges_on g ts) parts w₀ w room k.reading t inside way) ∙ m))
 
-    pub new-few : (k : ℕ) → New k ≡ ends_of n (tiles_of g w) here there t.third → k ≤ 2
+    pub new-few : (k : ℕ) → Some k ≡ ends_of n (tiles_of g w) here there t.third → k ≤ 2
     new-few k found-new =
         omega (
           arith,
@@ -160,7 +154,7 @@ module _ (g : Shape) (shaped : Shaped g) (n : ℕ) (t : Triple) (inside : edge_i
           first-mark n (mark n (tiles_of g w) here (8 + t.third)) there,
         )
 
-    module _ (k : ℕ) (found-new : New k ≡ ends_of n (tiles_of g w) here there t.third) (w₁ w₂ w₃ : List ℕ)
+    module _ (k : ℕ) (found-new : Some k ≡ ends_of n (tiles_of g w) here there t.third) (w₁ w₂ w₃ : List ℕ)
         (stored : w₁ ≡ set w (demand_at g + edge) (get_or w (demand_at g + edge) 0 + 1))
         (marks-out : Outside (tiles_at g) g.t w₁ w₂)
         (marks-are : tiles_of g w₂ ≡ ends_after n (tiles_of g w) here there t.third)

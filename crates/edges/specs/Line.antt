@@ -1,9 +1,9 @@
 -- The `edges` line as the definitions judge it, and what the code answers.
 -- Assumes nothing.
-use Rattle.std.specs.Prelude.{Bool, true, false, cond, List, map, ◌≡◌, ℕ, ◌+◌, ◌≤◌, eqb, length, drop}
+use Rattle.std.specs.Prelude.{Bool, true, false, cond, List, map, ◌≡◌, ℕ, ◌+◌, ◌≤◌, eqb, length, drop, Ok, Err, Result as Outcome}
 use Rattle.std.proofs.Math.Option.{none, some}
 use Rattle.layout.specs.Shapes.{sizes_of}
-use Rattle.layout.specs.declared.Shape.{Shape}
+use Rattle.layout.specs.declared.shape.Shape.{Shape}
 use Rattle.model.specs.Job.{Pin}
 use Rattle.model.specs.Lists.{all, twice}
 use Rattle.model.specs.Read.{Result, refused, found, Triple, edge_inside, edge_at, has_layer, edges_line}
@@ -15,14 +15,17 @@ use Rattle.lines.specs.Told.{After, refused_by}
 use Rattle.text.specs.Refusals.{place_of}
 use Rattle.text.specs.declared.Cursor.{Cursor}
 use Rattle.text.specs.declared.Fault.TheVariants.{Range as OutOfRange, EdgeTwice, Apart}
-use Rattle.text.specs.declared.Refusal.TheVariants.{Line as OnLine}
+use Rattle.text.specs.declared.Refusal.{Refusal}
+use Rattle.text.specs.declared.Refusal.TheVariants.{Line}
 use Rattle.edges.specs.Reading.{Reading, edges_on}
 use Rattle.edges.specs.declared.Edges.{Edges}
-use Rattle.edges.specs.declared.EdgesRead.{EdgesRead}
-use Rattle.edges.specs.declared.EdgesRead.TheVariants.{Line, Refused}
 use Rattle.edges.specs.declared.Judged.{Judged}
 use Rattle.edges.specs.declared.Judged.TheVariants.{Fine, Ring, Twice, Range}
 use Rattle.edges.specs.declared.Seen.{Seen}
+
+-- an `edges` line that was read, and the place of the next line
+abbrev pub EdgesRead : Type 0
+EdgesRead = Outcome (Edges × Cursor) Refusal
 
 -- a line of entries that was read, judged but for its last test: range, the same edge twice, reach
 abbrev pub judged_line : ℕ → ℕ → List Pin → ℕ → Lined → Result (List ℕ)
@@ -35,14 +38,14 @@ judged_line W H ps l (some c) =
 
 -- the verdict on reach, with a ring or without
 abbrev pub reached_by : ℕ → ℕ → ℕ → Cursor → Bool → EdgesRead
-reached_by parts entries from c ring = cond (eqb parts 1) (Line (record { from = from; entries = entries; ring = ring }) c) (Refused (OnLine Apart c.line))
+reached_by parts entries from c ring = cond (eqb parts 1) (Ok (record { from = from; entries = entries; ring = ring }, c)) (Err (Line Apart c.line))
 
 -- the verdict on a line whose form is right: its entries stand from `from` on, and c is the place after it
 abbrev pub verdict_by : Judged → ℕ → ℕ → ℕ → Cursor → EdgesRead
 verdict_by Fine parts entries from c = reached_by parts entries from c false
 verdict_by Ring parts entries from c = reached_by parts entries from c true
-verdict_by Twice parts entries from c = Refused (OnLine EdgeTwice c.line)
-verdict_by Range parts entries from c = Refused (OnLine OutOfRange c.line)
+verdict_by Twice parts entries from c = Err (Line EdgeTwice c.line)
+verdict_by Range parts entries from c = Err (Line OutOfRange c.line)
 
 abbrev pub verdict_of : Seen → ℕ → Cursor → EdgesRead
 verdict_of v from c = verdict_by v.judged v.parts v.entries from c
@@ -61,8 +64,8 @@ pub record EdgesFound (g : Shape) (n : ℕ) (s : List ℕ) (line : ℕ) (ps : Li
 
 -- the answer to the entries of a line, which stand from c on
 abbrev pub EntriesRead : Shape → ℕ → List ℕ → Cursor → List Pin → List ℕ → List ℕ → Lined → EdgesRead → Type 0
-EntriesRead g n s c ps w₀ w r (Refused f) = judged_line g.w g.h ps c.line r ≡ refused_by f
-EntriesRead g n s c ps w₀ w r (Line e d) = (e.from ≡ c.at) × EdgesFound g n s c.line ps w₀ w r e d
+EntriesRead g n s c ps w₀ w r (Err f) = judged_line g.w g.h ps c.line r ≡ refused_by f
+EntriesRead g n s c ps w₀ w r (Ok x) = (x.0.from ≡ c.at) × EdgesFound g n s c.line ps w₀ w r x.0 x.1
 
 -- An `edges` line at the place c of the text s that passed every test but the last, which decides: "13, on an `edges` line, after 8 and before 11, an edge
 -- whose direction has no layer" (document 02, S-2).
@@ -74,8 +77,8 @@ pub record JoinedFound (g : Shape) (n : ℕ) (s : List ℕ) (c : Cursor) (ps : L
 
 -- the answer to the line at a place, but for its last test
 abbrev pub JoinedRead : Shape → ℕ → List ℕ → Cursor → List Pin → List ℕ → List ℕ → EdgesRead → Type 0
-JoinedRead g n s c ps w₀ w (Refused f) = edges_line (sizes_of g) ps (place_of s c) ≡ refused_by f
-JoinedRead g n s c ps w₀ w (Line e d) = JoinedFound g n s c ps w₀ w e d
+JoinedRead g n s c ps w₀ w (Err f) = edges_line (sizes_of g) ps (place_of s c) ≡ refused_by f
+JoinedRead g n s c ps w₀ w (Ok x) = JoinedFound g n s c ps w₀ w x.0 x.1
 
 -- A fine `edges` line at the place c of the text s.
 pub record LineFound (g : Shape) (n : ℕ) (s : List ℕ) (c : Cursor) (ps : List Pin) (w₀ w : List ℕ) (e : Edges) (d : Cursor) : Type 0 where
@@ -85,5 +88,5 @@ pub record LineFound (g : Shape) (n : ℕ) (s : List ℕ) (c : Cursor) (ps : Lis
 
 -- the answer to the line at a place
 abbrev pub LineRead : Shape → ℕ → List ℕ → Cursor → List Pin → List ℕ → List ℕ → EdgesRead → Type 0
-LineRead g n s c ps w₀ w (Refused f) = edges_line (sizes_of g) ps (place_of s c) ≡ refused_by f
-LineRead g n s c ps w₀ w (Line e d) = LineFound g n s c ps w₀ w e d
+LineRead g n s c ps w₀ w (Err f) = edges_line (sizes_of g) ps (place_of s c) ≡ refused_by f
+LineRead g n s c ps w₀ w (Ok x) = LineFound g n s c ps w₀ w x.0 x.1

@@ -1,12 +1,12 @@
 -- The working numbers after the `pins` line of a net: its pins are marked, each of their tiles is a part, and nothing is joined yet.
 -- Assumes nothing.
-use Rattle.std.specs.Prelude.{false, List, [], ◌∷◌, ◌++◌, ◌≡◌, refl, ℕ, ◌+◌, ◌-◌, ◌*◌, ◌≤◌, ◌<◌, eqb, length}
+use Rattle.std.specs.Prelude.{false, List, [], ◌∷◌, ◌++◌, ◌≡◌, refl, ℕ, ◌+◌, ◌-◌, ◌*◌, ◌≤◌, ◌<◌, eqb, length, Ok}
 use Rattle.std.proofs.Common.{append_assoc, append-nil, inr, sym, ap, ◌∙◌, subst, arith}
 use Rattle.layout.specs.Areas.{demand_at, tiles_at, links_at, chosen_at, tiles_of, links_of}
 use Rattle.layout.specs.Dirs.{dirs_of}
 use Rattle.layout.specs.Parts.{Outside, part-long, part-outside}
 use Rattle.layout.specs.Shapes.{sizes_of, Shaped}
-use Rattle.layout.specs.declared.Shape.{Shape}
+use Rattle.layout.specs.declared.shape.Shape.{Shape}
 use Rattle.marks.specs.Marks.{bits_at, marked, touched, Older, mark-long, mark-touches, none_yet, none-marked, older-fits}
 use Rattle.model.specs.Job.{Pin}
 use Rattle.model.specs.Lists.{twice, bit, In}
@@ -16,7 +16,6 @@ use Rattle.pins.specs.Laws.{AllInside, first-twice, first-new, still-inside, pin
 use Rattle.lines.specs.Told.{mapped}
 use Rattle.pins.specs.Pins.{Marked, mark_pin, mark_pins, marked_twice, new_tiles, pins_marked, pins_told}
 use Rattle.pins.specs.declared.Pins.{Pins}
-use Rattle.pins.specs.declared.PinsRead.TheVariants.{Line}
 use Rattle.text.specs.Refusals.{place_of}
 use Rattle.text.specs.declared.Cursor.{Cursor}
 use Rattle.theory.specs.congestion.Sums.{in_head, in_tail}
@@ -61,10 +60,10 @@ pub record PinsFound (g : Shape) (n : ℕ) (s : List ℕ) (c : Cursor) (b a : Li
   pub parts : p.tiles ≡ new_tiles n b pins
 
 pub pins-found : (g : Shape) → Shaped g → (n : ℕ) (s : List ℕ) (c : Cursor) (b a : List ℕ) (p : Pins) (d : Cursor)
-    → pins_told s a (Line p d) ≡ mapped (pins_marked n b) (pins_line (sizes_of g) (place_of s c)) → PinsFound g n s c b a p d
+    → pins_told s a (Ok (p, d)) ≡ mapped (pins_marked n b) (pins_line (sizes_of g) (place_of s c)) → PinsFound g n s c b a p d
 pins-found g shaped n s c b a p d e = go (pins_line (sizes_of g) (place_of s c)) refl e
   where
-    go : (r : Result (List Pin)) → pins_line (sizes_of g) (place_of s c) ≡ r → pins_told s a (Line p d) ≡ mapped (pins_marked n b) r → PinsFound g n s c b a p d
+    go : (r : Result (List Pin)) → pins_line (sizes_of g) (place_of s c) ≡ r → pins_told s a (Ok (p, d)) ≡ mapped (pins_marked n b) r → PinsFound g n s c b a p d
     go (refused k j) h q = absurd (let y : ◌≡◌ {A = ℕ} 0 1 = cc in omega arith)
     go (found ps t) h q =
         let left : record { marks = a; tiles = p.tiles } ≡ pins_marked n b ps = cc in

@@ -2,8 +2,8 @@
 -- Assumes nothing.
 use Rattle.std.specs.Prelude.{Bool, true, false, List, [], map, ◌≡◌, ℕ, ◌+◌, ◌≤◌, ◌<◌, eqb, length, get_or}
 use Rattle.layout.specs.Areas.{demand_at, flat_at, tiles_at, tiles_of, links_of}
-use Rattle.layout.specs.Shapes.{most_tiles}
-use Rattle.layout.specs.declared.Shape.{Shape}
+use Rattle.layout.specs.Bounds.{most_tiles}
+use Rattle.layout.specs.declared.shape.Shape.{Shape}
 use Rattle.marks.specs.Marks.{marked, touched}
 use Rattle.marks.specs.Words.{Fits, most_stamp}
 use Rattle.model.specs.Job.{Pin}

@@ -3,7 +3,7 @@
 -- Assumes nothing.
 use Rattle.std.specs.Prelude.{Bool, true, cond, List, ◌≡◌, ℕ, eqb, length, drop}
 use Rattle.std.proofs.Math.Option.{some}
-use Rattle.layout.specs.declared.Shape.{Shape}
+use Rattle.layout.specs.declared.shape.Shape.{Shape}
 use Rattle.model.specs.Lists.{all}
 use Rattle.model.specs.Read.{Triple, edge_inside}
 use Rattle.model.specs.Text.{cut_line}

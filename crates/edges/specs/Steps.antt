@@ -5,7 +5,7 @@ use Rattle.std.proofs.Common.{inl, inr, ⊎_elim, sym, ap, ap₂, ◌∙◌, ari
 use Rattle.layout.specs.Areas.{demand_at, tiles_at, links_at, chosen_at, tiles_of, links_of}
 use Rattle.layout.specs.Parts.{part-long, part-outside, Outside, set-outside}
 use Rattle.layout.specs.Shapes.{Shaped}
-use Rattle.layout.specs.declared.Shape.{Shape}
+use Rattle.layout.specs.declared.shape.Shape.{Shape}
 use Rattle.marks.specs.Marks.{marked, touched, mark}
 use Rattle.model.specs.Job.{Pin}
 use Rattle.model.specs.Lists.{has, bit, In}

@@ -7,10 +7,12 @@ ghost use Rattle.std.specs.Prelude.{◌≡◌, List, ℕ, ◌+◌, ◌-◌, ◌*
 ghost use Rattle.std.proofs.lemmas.List.Edits.{sets};
 ghost use Rattle.model.specs.Job.{Job, Net};
 ghost use Rattle.theory.specs.engine.Loops.{comb};
-ghost use Rattle.sets.specs.Mask.{span_of, Charted};
+ghost use Rattle.sets.specs.Mask.{span_of};
 ghost use Rattle.costs.specs.Rows.{illegal_cost, layers_tried, Shape, RowsFrom};
 ghost use Rattle.engine.specs.Layers.{branch_cost, branch_mask, Attained, FirstCombination, FirstWritten, RootLeast, RootReady, RootChosen, TileReady, TileChosen, ChosenUpTo};
 ghost use Rattle.engine.specs.Net.{Holds, HoldsNet, Placed};
+
+use sets::Chart;
 
 // ---- combinations: a layer for each of a tile's k branches, which lead to the tiles from `first` on. The cost rows stand from o on. Loops count
 // branches and layers from 0.
@@ -42,27 +44,25 @@ fn branch_mask(mask: u32, k: usize, c: usize, l: usize) -> u32
 }
 
 // The cost and the vias of the set make just `goal`.
-fn reaches(chart: &[u32; 256], goal: u32, cost: u32, mask: u32) -> bool
-    requires charted { Charted span_of chart.now }
-    requires mask_bound { mask < 256 }
+fn reaches(chart: &Chart, goal: u32, cost: u32, mask: u32) -> bool
+    requires { mask < 256 }
     ensures { result ≡ eqb (span_of mask + cost) goal }
 {
     if goal < cost {
         return false;
     }
-    sets::span(chart, mask) == goal - cost
+    chart.span(mask) == goal - cost
 }
 
 // The cost and the vias of the set are over `goal`: so is every combination that adds to them.
-fn exceeds(chart: &[u32; 256], goal: u32, cost: u32, mask: u32) -> bool
-    requires charted { Charted span_of chart.now }
-    requires mask_bound { mask < 256 }
+fn exceeds(chart: &Chart, goal: u32, cost: u32, mask: u32) -> bool
+    requires { mask < 256 }
     ensures { result ≡ ltb goal (span_of mask + cost) }
 {
     if goal < cost {
         return true;
     }
-    goal - cost < sets::span(chart, mask)
+    goal - cost < chart.span(mask)
 }
 
 // How many layers the loop of the j-th branch tries: one without a branch has one turn.
@@ -101,9 +101,8 @@ fn first_combination(
     t: Tile,
     k: usize,
     layers: usize,
-    chart: &[u32; 256],
+    chart: &Chart,
 ) -> Combination
-    requires charted { Charted span_of chart.now }
     requires k_bound { k ≤ 3 }
     requires base_bound { t.base < 256 }
     requires le_layers { (1 ≤ layers) × (layers ≤ 8) }
@@ -171,8 +170,7 @@ fn put_layers(w: &mut [u32], at: usize, k: usize, a: usize, b: usize, c: usize)
 
 // Chooses the layers of a tile's k branches: the first combination that costs the goal. On all eight layers the numbers of branches and layers are
 // constants, so that loops without a branch fall away and the others have a known length.
-fn choose_branches(w: &mut [u32], m: usize, t: Tile, k: usize, layers: usize, chart: &[u32; 256])
-    requires charted { Charted span_of chart.now }
+fn choose_branches(w: &mut [u32], m: usize, t: Tile, k: usize, layers: usize, chart: &Chart)
     requires k_bound { k ≤ 3 }
     requires base_bound { t.base < 256 }
     requires le_layers { (1 ≤ layers) × (layers ≤ 8) }
@@ -205,8 +203,7 @@ fn choose_branches(w: &mut [u32], m: usize, t: Tile, k: usize, layers: usize, ch
 }
 
 // Chooses the layers of the branches of tile i, which is not the root and has its own layer already.
-fn choose_below(w: &mut [u32], m: usize, i: usize, layers: usize, chart: &[u32; 256])
-    requires charted { Charted span_of chart.now }
+fn choose_below(w: &mut [u32], m: usize, i: usize, layers: usize, chart: &Chart)
     requires tile_ready { TileReady w.old m i layers }
     requires m_bound { (m ≤ 65536) × (1 ≤ i) × (i < m) × (1 ≤ layers) × (layers ≤ 8) }
     requires m_in_bounds { 12 * m ≤ length w.old }
@@ -225,8 +222,7 @@ fn choose_below(w: &mut [u32], m: usize, i: usize, layers: usize, chart: &[u32; 
 }
 
 // Chooses the layers of the root's branches. The root has no layer above it.
-fn choose_root(w: &mut [u32], m: usize, layers: usize, goal: u32, chart: &[u32; 256])
-    requires charted { Charted span_of chart.now }
+fn choose_root(w: &mut [u32], m: usize, layers: usize, goal: u32, chart: &Chart)
     requires root_ready { RootReady w.old m layers goal }
     requires m_bound { (m ≤ 65536) × (1 ≤ m) × (1 ≤ layers) × (layers ≤ 8) }
     requires m_in_bounds { 12 * m ≤ length w.old }
@@ -244,8 +240,7 @@ fn choose_root(w: &mut [u32], m: usize, layers: usize, goal: u32, chart: &[u32; 
 
 // Chooses the layers of all edges from the cost rows, the root's branches first, and returns the least cost of the root. There must be a way:
 // that cost is below the cost of an illegal layer.
-pub fn choose(w: &mut [u32], m: usize, n: usize, layers: usize, chart: &[u32; 256]) -> u32
-    requires charted { Charted span_of chart.now }
+pub fn choose(w: &mut [u32], m: usize, n: usize, layers: usize, chart: &Chart) -> u32
     requires shape { Shape w.old m n layers }
     requires rows_from { RowsFrom w.old w.old m n layers 1 }
     requires by_index { (v : ℕ) → RootLeast w.old m layers v → v < illegal_cost }
@@ -254,10 +249,8 @@ pub fn choose(w: &mut [u32], m: usize, n: usize, layers: usize, chart: &[u32; 25
 {
     let least = costs::root_least(w, m, n, layers, chart);
     choose_root(w, m, layers, least, chart);
-    let mut i = 1;
-    while i < n {
+    for i in 1..n {
         choose_below(w, m, i, layers, chart);
-        i += 1;
     }
     least
 }
@@ -265,9 +258,8 @@ pub fn choose(w: &mut [u32], m: usize, n: usize, layers: usize, chart: &[u32; 25
 // The layers of one net. The caller knows, in its proof, the job, the net and the layers that each edge may have, and that the slice holds them
 // (`Holds`): it gives that record once to `requires`, inside a `HoldsNet`, and once more to `ensures`, which answers with `Placed` for this job, net
 // and layers: the layers of the choice with the fewest vias from 3m + 1 on, by edge in walk order, and these vias as the number returned.
-pub fn place_layers(w: &mut [u32], m: usize, n: usize, layers: usize, chart: &[u32; 256]) -> u32
-    requires charted { Charted span_of chart.now }
-    requires holds_net { HoldsNet w.old m n layers }
+pub fn place_layers(w: &mut [u32], m: usize, n: usize, layers: usize, chart: &Chart) -> u32
+    requires { HoldsNet w.old m n layers }
     ensures { (j : Job) (net : Net) (allowed : ℕ → List ℕ) → Holds j net allowed w.old m n layers → Placed (λ l. l) j net allowed w.old w.new m result }
 {
     costs::costs(w, m, n, layers, chart);

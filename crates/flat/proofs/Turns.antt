@@ -8,7 +8,7 @@ use native.Mathlib.Omega.{arith}
 use lib.ListN.{get_or}
 use Rattle.layout.specs.Areas.{loads_at, demand_at, flat_at}
 use Rattle.layout.specs.Parts.{Outside}
-use Rattle.layout.specs.declared.Shape.{Shape}
+use Rattle.layout.specs.declared.shape.Shape.{Shape}
 use Rattle.model.specs.Job.{Job, edge_count}
 use Rattle.model.specs.Lists.{up_from, sum, most}
 use Rattle.model.specs.Overflow.{over}

@@ -3,7 +3,7 @@
 use Rattle.std.specs.Prelude.{true, false, List, [], ◌≡◌, ℕ, suc, ◌+◌, ◌-◌, ◌*◌, ◌≤◌, ◌<◌, get_or, replicate}
 use Rattle.std.proofs.Common.{sym, ap, ◌∙◌, arith}
 use Rattle.layout.specs.Areas.{loads_at, demand_at, flat_at}
-use Rattle.layout.specs.declared.Shape.{Shape}
+use Rattle.layout.specs.declared.shape.Shape.{Shape}
 use Rattle.model.specs.Job.{Job, net_count, edge_count, runs, group, layers_of, capacity, net_edges}
 use Rattle.model.specs.Lists.{up_from, sum, most}
 use Rattle.model.specs.Overflow.{over, flat_demand, flat_capacity, flat_overflow, TO, MO}

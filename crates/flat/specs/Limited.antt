@@ -1,15 +1,14 @@
 -- The limits on the overflow of one layer: "MO/K rounded up", and in a job with `dirs`, "for each direction, the largest flat overflow among edges of that
 -- direction divided by the number of its layers, rounded up, and 0 where it has no edge or no layer".
 -- Assumes nothing.
-use Rattle.std.specs.Prelude.{Bool, true, false, cond, List, [], ◌⊎◌, ◌≡◌, refl, ℕ, zero, suc, ◌+◌, ◌-◌, ◌≤◌, ◌<◌, max, eqb, ltb, length, get_or}
+use Rattle.std.specs.Prelude.{Bool, true, false, cond, List, [], ◌⊎◌, ◌≡◌, refl, ℕ, zero, suc, ◌+◌, ◌-◌, ◌≤◌, ◌<◌, max, eqb, ltb, length, get_or, Some, None, is_some, Option as Maybe}
 use Rattle.std.proofs.Common.{inl, inr, sym, ap, ap₂, ◌∙◌, arith, lt-ltb, le-ltb}
 use Rattle.std.proofs.Math.Option.{Option, none, some}
 use Rattle.std.proofs.Math.Path.{fun_ext}
 use Rattle.layout.specs.Areas.{demand_at}
 use Rattle.layout.specs.Dirs.{digits_of, dirs_of}
-use Rattle.layout.specs.declared.Dirs.{Dirs}
-use Rattle.layout.specs.declared.Dirs.TheVariants.{Any, Given}
-use Rattle.layout.specs.declared.Shape.{Shape}
+use Rattle.layout.specs.declared.shape.Dirs.{Dirs}
+use Rattle.layout.specs.declared.shape.Shape.{Shape}
 use Rattle.model.specs.Grid.{east_count}
 use Rattle.model.specs.Job.{Job, edge_count, runs, group, layers_in, edges_in}
 use Rattle.model.specs.Lists.{up_from, most, keep}
@@ -29,9 +28,19 @@ abbrev pub way_limit : Shape → List ℕ → ℕ → ℕ → ℕ → ℕ
 way_limit g w way first n = ceil_div (most_at (demand_at g + first) n w) (layers_for g way)
 
 -- by whether the job says which way its layers run
-abbrev pub limits_by : Dirs → Shape → List ℕ → ℕ → Limits
-limits_by Any g w m = record { border = g.east; east = ceil_div m g.k; north = ceil_div m g.k }
-limits_by (Given d) g w m = record { border = g.east; east = way_limit g w 0 0 g.east; north = way_limit g w 1 g.east (g.e - g.east) }
+abbrev pub limits_by : Maybe Dirs → Shape → List ℕ → ℕ → Limits
+limits_by None g w m = record { border = g.east; east = ceil_div m g.k; north = ceil_div m g.k }
+limits_by (Some d) g w m = record { border = g.east; east = way_limit g w 0 0 g.east; north = way_limit g w 1 g.east (g.e - g.east) }
+
+-- where it does not say, and where it does
+pub limits-plain : (d : Maybe Dirs) → is_some d ≡ false → (g : Shape) (w : List ℕ) (m : ℕ) → limits_by d g w m ≡ record { border = g.east; east = ceil_div m g.k; north = ceil_div m g.k }
+limits-plain None h g w m = refl
+limits-plain (Some d) h g w m = cc
+
+pub limits-given : (d : Maybe Dirs) → is_some d ≡ true → (g : Shape) (w : List ℕ) (m : ℕ)
+    → limits_by d g w m ≡ record { border = g.east; east = way_limit g w 0 0 g.east; north = way_limit g w 1 g.east (g.e - g.east) }
+limits-given None h g w m = cc
+limits-given (Some d) h g w m = refl
 
 -- the limits found in the working numbers w, MO being m
 abbrev pub limits_of : Shape → List ℕ → ℕ → Limits
@@ -157,6 +166,6 @@ module _ (g : Shape) (j : Job) (w : List ℕ) (m : ℕ) (over : (e : ℕ) → e 
   pub limits-are : LimitsAre j (limits_of g w m)
   limits-are = go g.dirs refl
     where
-      go : (d : Dirs) → g.dirs ≡ d → LimitsAre j (limits_by d g w m)
-      go Any e = plain-are (sym ways ∙ ap (dirs_of g.k) e)
-      go (Given d) e = given-are (digits_of g.k d) (sym ways ∙ ap (dirs_of g.k) e)
+      go : (d : Maybe Dirs) → g.dirs ≡ d → LimitsAre j (limits_by d g w m)
+      go None e = plain-are (sym ways ∙ ap (dirs_of g.k) e)
+      go (Some d) e = given-are (digits_of g.k d.north) (sym ways ∙ ap (dirs_of g.k) e)

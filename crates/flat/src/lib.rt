@@ -3,8 +3,8 @@
 
 ghost use Rattle.std.specs.Prelude.{◌≡◌, ℕ, ◌+◌, ◌-◌, ◌<◌, ◌≤◌, max, length, get_or};
 ghost use Rattle.layout.specs.Areas.{loads_at, demand_at, flat_at, tiles_at};
+ghost use Rattle.layout.specs.Dirs.{heading_number};
 ghost use Rattle.layout.specs.Parts.{Outside};
-ghost use Rattle.layout.specs.Shapes.{Shaped};
 ghost use Rattle.model.specs.Job.{Job, edge_count};
 ghost use Rattle.model.specs.Limits.{most_layers, most_capacity, most_nets};
 ghost use Rattle.model.specs.Overflow.{over, ceil_div};
@@ -13,7 +13,7 @@ ghost use Rattle.net.specs.Places.{SmallCapacities};
 ghost use Rattle.flat.specs.FlatPlan.{AllCounted, FlatCapacities, FlatDemands, Overflows, sum_at, most_at, capacity_sum};
 ghost use Rattle.flat.specs.Limited.{way_limit, limits_of, limit_at};
 
-use layout::{Dirs, Shape};
+use layout::{Heading, Shape};
 
 // TO and MO of the flat plan.
 #[derive(Clone, Copy)]
@@ -37,7 +37,6 @@ fn sum_of(w: &[u32], at: usize, k: usize) -> u32
 
 // The sum of an edge's K capacities.
 fn edge_capacity(w: &[u32], g: Shape, edge: usize) -> u32
-    requires shaped { Shaped g }
     requires edge_lt_e { (edge < g.e) × (loads_at g ≤ length w.now) }
     requires small_capacities { SmallCapacities g w.now }
     ensures { result ≡ capacity_sum g w.now edge }
@@ -52,7 +51,6 @@ fn edge_capacity(w: &[u32], g: Shape, edge: usize) -> u32
 
 // Puts c(e), the sum of the edge's K capacities, in its place for each edge.
 pub fn flat_capacities(w: &mut [u32], g: Shape)
-    requires shaped { Shaped g }
     requires g_in_bounds { tiles_at g ≤ length w.old }
     requires small_capacities { SmallCapacities g w.old }
     ensures flat_capacities { (j : Job) → Capacities g j w.old → g.k ≡ j.layers → AllCounted j → FlatCapacities g j w.new }
@@ -65,28 +63,8 @@ pub fn flat_capacities(w: &mut [u32], g: Shape)
     }
 }
 
-// "d − c or 0, whichever is larger"
-fn over_of(d: u32, c: u32) -> u32
-    ensures { result ≡ over c d }
-{
-    if c < d {
-        return d - c;
-    }
-    0
-}
-
-fn larger(a: u32, b: u32) -> u32
-    ensures { result ≡ max a b }
-{
-    if a < b {
-        return b;
-    }
-    a
-}
-
 // Puts o(e) in the place of d(e) for each edge, and returns TO and MO.
 pub fn overflows(w: &mut [u32], g: Shape) -> Flat
-    requires shaped { Shaped g }
     requires g_in_bounds { tiles_at g ≤ length w.old }
     requires by_index { (e : ℕ) → e < g.e → get_or w.old (demand_at g + e) 0 ≤ most_nets }
     ensures overflows { (j : Job) → FlatDemands g j w.old → FlatCapacities g j w.old → g.e ≡ edge_count j → Overflows g j w.new result }
@@ -97,10 +75,11 @@ pub fn overflows(w: &mut [u32], g: Shape) -> Flat
     let mut total = 0u64;
     let mut most = 0u32;
     for e in 0..g.e {
-        let o = over_of(w[demand + e], w[flat + e]);
+        // "d − c or 0, whichever is larger"
+        let o = w[demand + e].saturating_sub(w[flat + e]);
         w[demand + e] = o;
-        total += o as u64;
-        most = larger(most, o);
+        total += u64::from(o);
+        most = most.max(o);
     }
     Flat { total, most }
 }
@@ -114,7 +93,7 @@ fn most_of(w: &[u32], at: usize, n: usize) -> u32
 {
     let mut most = 0u32;
     for i in 0..n {
-        most = larger(most, w[at + i]);
+        most = most.max(w[at + i]);
     }
     most
 }
@@ -131,16 +110,15 @@ fn share(most: u32, layers: usize) -> u32
     (most + (n - 1)) / n
 }
 
-// The limit of n edges from the first one on, all of which go east (0) or north (1): o(e) stands in the place of d(e).
-fn way_limit(w: &[u32], g: Shape, way: u32, first: usize, n: usize) -> u32
-    requires shaped { Shaped g }
+// The limit of n edges from the first one on, all of which have this heading: o(e) stands in the place of d(e).
+fn way_limit(w: &[u32], g: Shape, heading: Heading, first: usize, n: usize) -> u32
     requires n_bound { (first + n ≤ g.e) × (flat_at g ≤ length w.now) }
     requires by_index { (e : ℕ) → e < g.e → get_or w.now (demand_at g + e) 0 ≤ most_nets }
-    ensures { result ≡ way_limit g w.now way first n }
+    ensures { result ≡ way_limit g w.now (heading_number heading) first n }
 {
     let dirs = g.dirs;
     let most = most_of(w, layout::demand_at(g) + first, n);
-    share(most, layout::layers_in(dirs, way, g.k))
+    share(most, layout::layers_in(dirs, heading, g.k))
 }
 
 // The limits of the edges that go east, which are those before the border, and of those that go north.
@@ -153,30 +131,25 @@ pub struct Limits {
 
 // The limits, where o(e) stands in the place of d(e): in a job without directions "MO/K rounded up" for all edges, and else for each direction its own.
 pub fn limits_of(w: &[u32], g: Shape, most: u32) -> Limits
-    requires shaped { Shaped g }
     requires g_in_bounds { (flat_at g ≤ length w.now) × (most ≤ most_nets) }
     requires by_index { (e : ℕ) → e < g.e → get_or w.now (demand_at g + e) 0 ≤ most_nets }
     ensures { result ≡ limits_of g w.now most }
 {
-    let dirs = g.dirs;
-    match dirs {
-        Dirs::Any => {
-            let each = share(most, g.k);
-            Limits {
-                border: g.east,
-                east: each,
-                north: each,
-            }
-        }
-        Dirs::Given(_) => {
-            let east = way_limit(w, g, 0, 0, g.east);
-            let north = way_limit(w, g, 1, g.east, g.e - g.east);
-            Limits {
-                border: g.east,
-                east,
-                north,
-            }
-        }
+    let border = g.east;
+    if g.dirs.is_none() {
+        let each = share(most, g.k);
+        return Limits {
+            border,
+            east: each,
+            north: each,
+        };
+    }
+    let east = way_limit(w, g, Heading::East, 0, border);
+    let north = way_limit(w, g, Heading::North, border, g.e - border);
+    Limits {
+        border,
+        east,
+        north,
     }
 }
 
@@ -194,5 +167,5 @@ pub fn limit_at(m: Limits, edge: usize) -> u32
 pub fn largest_limit(m: Limits) -> u32
     ensures { result ≡ max m.east m.north }
 {
-    larger(m.east, m.north)
+    m.east.max(m.north)
 }

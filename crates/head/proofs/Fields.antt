@@ -1,6 +1,6 @@
 -- Lines with one number in its range, as the code has read them.
 -- Assumes nothing.
-use mathlib.Core.Path.{◌≡◌, sym, ap, ◌∙◌}
+use mathlib.Core.Path.{◌≡◌, sym, ◌∙◌}
 use mathlib.Core.List.{List}
 use Prim.Native.Nat.{ℕ, ◌+◌, ◌≤◌}
 use Prim.Native.String.{String}
@@ -11,9 +11,7 @@ use Rattle.text.specs.Refusals.{place_of}
 use Rattle.text.specs.declared.Cursor.{Cursor}
 use Rattle.text.specs.declared.Refusal.{Refusal}
 use Rattle.lines.specs.Keyed.{key_bytes, ranged_by, ranged-is}
-use Rattle.lines.specs.Told.{After, refused_by, field_told, field_in, field-after}
-use Rattle.lines.specs.declared.Field.{Field}
-use Rattle.lines.specs.declared.Field.TheVariants.{Value, Refused}
+use Rattle.lines.specs.Told.{After, refused_by}
 
 -- the value v was read, and the next line is at d
 pub record Got (key : String) (low high : ℕ) (s : List ℕ) (c : Cursor) (v : ℕ) (d : Cursor) : Type 0 where
@@ -22,16 +20,15 @@ pub record Got (key : String) (low high : ℕ) (s : List ℕ) (c : Cursor) (v : 
   pub most : v ≤ high
   pub after : After (length s) (c.line + 1) d
 
-module _ (key : String) (low high : ℕ) (s : List ℕ) (c : Cursor) (r : Field)
-    (e : (field_told s r ≡ ranged_by (key_bytes key) low high (place_of s c)) × field_in (length s) (c.line + 1) r) where
-  pub not-got : (x : Refusal) → r ≡ Refused x → ranged key low high (place_of s c) ≡ refused_by x
-  not-got x h = ranged-is key low high (place_of s c) ∙ sym e.0 ∙ ap (field_told s) h
+module _ (key : String) (low high : ℕ) (s : List ℕ) (c : Cursor) where
+  pub not-got : (x : Refusal) → refused_by x ≡ ranged_by (key_bytes key) low high (place_of s c) → ranged key low high (place_of s c) ≡ refused_by x
+  not-got x e = ranged-is key low high (place_of s c) ∙ sym e
 
-  pub got : (v : ℕ) (d : Cursor) → r ≡ Value v d → Got key low high s c v d
-  got v d h = record { read = here; least = limits.0; most = limits.1; after = field-after r (length s) (c.line + 1) v d h e.1 }
+  pub got : (v : ℕ) (d : Cursor) → found v (place_of s d) ≡ ranged_by (key_bytes key) low high (place_of s c) → After (length s) (c.line + 1) d → Got key low high s c v d
+  got v d e after = record { read = here; least = limits.0; most = limits.1; after = after }
     where
       here : ranged key low high (place_of s c) ≡ found v (place_of s d)
-      here = ranged-is key low high (place_of s c) ∙ sym e.0 ∙ ap (field_told s) h
+      here = ranged-is key low high (place_of s c) ∙ sym e
 
       limits : (low ≤ v) × (v ≤ high)
       limits = gives_found (λ n. (low ≤ n) × (n ≤ high)) (ranged key low high (place_of s c)) v (place_of s d) here (ranged-gives key low high (place_of s c))

@@ -1,3 +1,3 @@
 mod Stacks
 mod Fields
-mod Cases
+mod Rooms

@@ -12,6 +12,7 @@ pub fn read_full<R: Read>(from: &mut R, buf: &mut [u8]) -> io::Result<usize>
     ensures buf_len_unchanged { length buf.new ≡ length buf.old }
 {
     let mut done = 0;
+    // not a `for`: each read says how far it came
     while done < buf.len() {
         let n = from.read(&mut buf[done..])?;
         if n == 0 {

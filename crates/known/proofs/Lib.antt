@@ -1,2 +1,4 @@
 mod Spelling
 mod Parts
+mod Going
+mod GoingPins

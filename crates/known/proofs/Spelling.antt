@@ -15,8 +15,8 @@ use Rattle.model.specs.Lists.{all}
 use Rattle.model.specs.Text.{is_digit, is_number, value_from, number}
 use Rattle.scan.specs.Inside.{false-true}
 use Rattle.scan.specs.Places.{number_is, head-drop}
-use Rattle.text.specs.Number.{digit_run, run, number_at}
-use Rattle.text.specs.declared.Numeral.TheVariants.{Value}
+use Rattle.std.specs.Prelude.{Some}
+use Rattle.text.specs.Number.{numeral, digit_run, run, number_at}
 
 both : (p q : Bool) → (p && q) ≡ true → (p ≡ true) × (q ≡ true)
 both true q e = (refl, e)
@@ -94,7 +94,7 @@ pub record Spelt (s : List ℕ) (i v n : ℕ) : Type 0 where
   pub first_most : get_or s i 0 ≤ 57
   pub digits : ((n ≡ i + 1) × (v ≡ get_or s i 0 - 48)) ⊎ ((n ≡ i + 2) × (10 ≤ v) × (48 ≤ get_or s (i + 1) 0) × (get_or s (i + 1) 0 ≤ 57) × (v ≡ 10 * (get_or s i 0 - 48) + (get_or s (i + 1) 0 - 48)))
 
-pub spelt : (s : List ℕ) (i v n : ℕ) → number_at s i ≡ Value v n → v < 100 → Spelt s i v n
+pub spelt : (s : List ℕ) (i v n : ℕ) → number_at s i ≡ Some (numeral v n) → v < 100 → Spelt s i v n
 spelt s i v n e h = go (run s i) refl (digits-short (run s i) v (number_is s i v n e).0 h)
   where
     byte : (k : ℕ) → k < length (run s i) → get_or s (i + k) 0 ≡ get_or (run s i) k 0

@@ -1,3 +1,5 @@
-pub mod Known
+pub mod Short
 pub mod Left
+pub mod Edges
 pub mod Taken
+pub mod Pins

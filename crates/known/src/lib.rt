@@ -1,27 +1,13 @@
 // The entries of lines that the first pass found right, read again. Every coordinate has one digit or two, and what was tested then is not tested again.
 #![tactic(auto)]
 
-ghost use Rattle.std.specs.Prelude.{◌≡◌, cond, ◌+◌, ◌-◌, ◌*◌, ◌≤◌, eqb, ltb};
+ghost use Rattle.std.specs.Prelude.{Some, ◌≡◌, cond, ◌+◌, ◌-◌, ◌*◌, ◌≤◌, eqb, ltb};
 ghost use Rattle.text.specs.Entries.{comma_at, pin_entry_at, edge_entry_at};
-ghost use Rattle.text.specs.declared.Numeral.TheVariants.{Value};
-ghost use Rattle.known.specs.Known.{entry_of, ShortNumber, ShortEntry};
+ghost use Rattle.known.specs.Short.{ShortNumber, ShortEntry};
+ghost use Rattle.known.specs.Edges.{AllFrom, CanNext, NextGives, entries_most};
+ghost use Rattle.known.specs.Pins as pins;
 
-// A coordinate, and the place after the comma behind it.
-#[derive(Clone, Copy)]
-pub struct Coordinate {
-    pub value: usize,
-    pub next: usize,
-}
-
-// An entry of three parts, and the place after the byte behind it, which ends the line after the last entry. Of an edge the third part is 0 for east and 1 for north.
-#[derive(Clone, Copy)]
-pub struct Known {
-    pub x: usize,
-    pub y: usize,
-    pub third: usize,
-    pub next: usize,
-    pub last: bool,
-}
+use text::{Entry, Numeral};
 
 fn digit(b: u8) -> usize
     requires { 48 ≤ b }
@@ -50,59 +36,141 @@ fn digits(first: usize, b: u8) -> usize
     10 * first + second
 }
 
-// The number of one digit or two that stands at `at`, before a comma.
-fn coordinate_at(s: &[u8], at: usize) -> Coordinate
+// The number of one digit or two that stands at `at`, and the place after the comma behind it.
+fn coordinate_at(s: &[u8], at: usize) -> Numeral
     requires { ShortNumber (comma_at s.now at) }
-    ensures { Value result.value result.next ≡ comma_at s.now at }
+    ensures { Some result ≡ comma_at s.now at }
 {
     let first = digit(s[at]);
     let b = s[at + 1];
     let value = digits(first, b);
     let next = at + 3 - comma(b);
-    Coordinate { value, next }
+    Numeral { value, next }
 }
 
 // 1 for `n`, which is north.
 fn way(b: u8) -> usize
     ensures { result ≡ cond (eqb b 110) 1 0 }
 {
-    if b == 110 { 1 } else { 0 }
+    if b == b'n' { 1 } else { 0 }
 }
 
 // The edge that stands at `at`.
-pub fn edge_at(s: &[u8], at: usize) -> Known
+pub fn edge_at(s: &[u8], at: usize) -> Entry
     requires { ShortEntry (edge_entry_at s.now at) }
-    ensures { entry_of result ≡ edge_entry_at s.now at }
+    ensures { Some result ≡ edge_entry_at s.now at }
 {
     let x = coordinate_at(s, at);
     let y = coordinate_at(s, x.next);
     let n = y.next;
     let d = way(s[n]);
     let b = s[n + 1];
-    Known {
+    Entry {
         x: x.value,
         y: y.value,
         third: d,
         next: n + 2,
-        last: b == 10,
+        last: b == b'\n',
     }
 }
 
 // The pin that stands at `at`.
-pub fn pin_at(s: &[u8], at: usize) -> Known
+pub fn pin_at(s: &[u8], at: usize) -> Entry
     requires { ShortEntry (pin_entry_at s.now at) }
-    ensures { entry_of result ≡ pin_entry_at s.now at }
+    ensures { Some result ≡ pin_entry_at s.now at }
 {
     let x = coordinate_at(s, at);
     let y = coordinate_at(s, x.next);
     let n = y.next;
     let l = digit(s[n]);
     let b = s[n + 1];
-    Known {
+    Entry {
         x: x.value,
         y: y.value,
         third: l,
         next: n + 2,
-        last: b == 10,
+        last: b == b'\n',
+    }
+}
+
+// The edges of a line that are still to be read: those from `at` on, if there are more.
+#[derive(Drop)]
+pub struct Edges<'a> {
+    text: &'a [u8],
+    at: usize,
+    more: bool,
+}
+
+// The edges of the line that stands at `at`, one or more.
+#[inline(always)]
+pub fn edges_from(s: &[u8], at: usize) -> Edges
+    ensures { AllFrom s.now at result }
+{
+    Edges {
+        text: s,
+        at,
+        more: true,
+    }
+}
+
+impl<'a> Iterator for Edges<'a> {
+    type Item = Entry;
+
+    ghost can_next = { CanNext };
+
+    ghost next_gives = { NextGives };
+
+    ghost remaining = { entries_most };
+
+    #[inline(always)]
+    fn next(&mut self) -> Option<Entry> {
+        if !self.more {
+            return None;
+        }
+        let e = edge_at(self.text, self.at);
+        self.at = e.next;
+        self.more = !e.last;
+        Some(e)
+    }
+}
+
+// The same of pins.
+#[derive(Drop)]
+pub struct Pins<'a> {
+    text: &'a [u8],
+    at: usize,
+    more: bool,
+}
+
+// The pins of the line that stands at `at`, one or more.
+#[inline(always)]
+pub fn pins_from(s: &[u8], at: usize) -> Pins
+    ensures { pins.AllFrom s.now at result }
+{
+    Pins {
+        text: s,
+        at,
+        more: true,
+    }
+}
+
+impl<'a> Iterator for Pins<'a> {
+    type Item = Entry;
+
+    ghost can_next = { pins.CanNext };
+
+    ghost next_gives = { pins.NextGives };
+
+    ghost remaining = { pins.entries_most };
+
+    #[inline(always)]
+    fn next(&mut self) -> Option<Entry> {
+        if !self.more {
+            return None;
+        }
+        let e = pin_at(self.text, self.at);
+        self.at = e.next;
+        self.more = !e.last;
+        Some(e)
     }
 }

@@ -1,9 +1,9 @@
 -- The numbers of an exported call's result.
 -- Assumes nothing.
-use Rattle.std.specs.Prelude.{ℕ}
+use Rattle.std.specs.Prelude.{ℕ, Result as Outcome}
 use Rattle.calls.specs.Calls.{returned_of, plan_of, size_of}
-use Rattle.planning.specs.declared.Planned.{Planned}
-use Rattle.planning.specs.declared.Printed.{Printed}
+use Rattle.planning.specs.declared.Totals.{Totals}
+use Rattle.text.specs.declared.Refusal.{Refusal}
 use Rattle.model.specs.Calls.{Returned}
 use Rattle.layerplan_c.specs.declared.LayerplanResult.{LayerplanResult}
 
@@ -15,8 +15,8 @@ told_by r = record { number = r.number; line = r.line; vias = r.vias; total = r.
 abbrev pub result_with : Returned → ℕ → LayerplanResult
 result_with r n = record { number = r.number; line = r.line; vias = r.vias; total = r.total; maximum = r.maximum; length = n }
 
-abbrev pub plan_result : Planned → LayerplanResult
+abbrev pub plan_result : Outcome Totals Refusal → LayerplanResult
 plan_result p = result_with (returned_of p) 0
 
-abbrev pub print_result : Printed → LayerplanResult
+abbrev pub print_result : Outcome (Totals × ℕ) Refusal → LayerplanResult
 print_result p = result_with (returned_of (plan_of p)) (size_of p)

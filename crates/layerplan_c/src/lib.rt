@@ -1,16 +1,15 @@
 // Both calls under the names that C and Rust link: include/layerplan.h declares them. A slice is passed as pointer and length.
 #![tactic(auto)]
 
-ghost use Rattle.std.specs.Prelude.{◌≡◌};
+ghost use Rattle.std.specs.Prelude.{◌≡◌, Ok, Err};
 ghost use Rattle.calls.specs.Calls.{buffers_of, returned_of};
 ghost use Rattle.model.specs.Calls.{plan_lent, plan_call, print_lent, print_call};
 ghost use Rattle.model.specs.Demand3.{Met};
 ghost use Rattle.model.specs.Job.{Job};
 ghost use Rattle.model.specs.Read.{Place, found, read};
-ghost use Rattle.planning.specs.declared.Planned.TheVariants.{Plan, Refused};
 ghost use Rattle.layerplan_c.specs.Results.{told_by, result_with, plan_result, print_result};
 
-use planning::{Planned, Printed, Totals};
+use planning::Totals;
 use sort::Entry;
 use text::Refusal;
 
@@ -28,7 +27,7 @@ pub struct LayerplanResult {
 
 // The result for a plan that is made, with the length of its text.
 fn made(t: Totals, length: u64) -> LayerplanResult
-    ensures { result ≡ result_with (returned_of (Plan t)) length }
+    ensures { result ≡ result_with (returned_of (Ok t)) length }
 {
     LayerplanResult {
         number: 0,
@@ -42,10 +41,10 @@ fn made(t: Totals, length: u64) -> LayerplanResult
 
 // The result for a refusal: its number and line, and zeros.
 fn refused(f: Refusal) -> LayerplanResult
-    ensures { result ≡ plan_result (Refused f) }
+    ensures { result ≡ plan_result (Err f) }
 {
-    let number = text::number_of(f);
-    let line = text::line_of(f);
+    let number = f.number();
+    let line = f.line();
     LayerplanResult {
         number: number as u64,
         line: line as u64,
@@ -56,21 +55,21 @@ fn refused(f: Refusal) -> LayerplanResult
     }
 }
 
-fn plan_result(p: Planned) -> LayerplanResult
+fn plan_result(p: Result<Totals, Refusal>) -> LayerplanResult
     ensures { result ≡ plan_result p }
 {
     match p {
-        Planned::Plan(t) => made(t, 0),
-        Planned::Refused(f) => refused(f),
+        Ok(t) => made(t, 0),
+        Err(f) => refused(f),
     }
 }
 
-fn print_result(p: Printed) -> LayerplanResult
+fn print_result(p: Result<(Totals, usize), Refusal>) -> LayerplanResult
     ensures { result ≡ print_result p }
 {
     match p {
-        Printed::Print(t, size) => made(t, size as u64),
-        Printed::Refused(f) => refused(f),
+        Ok((t, size)) => made(t, size as u64),
+        Err(f) => refused(f),
     }
 }
 

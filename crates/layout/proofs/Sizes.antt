@@ -5,8 +5,7 @@ use Prim.Native.Nat.{ℕ, ◌-◌, ◌*◌, ◌≤◌}
 use native.Mathlib.Nat.{mul-le-mul, mul-le-mul_left, mul-le-mul_right}
 use native.Mathlib.Omega.{arith}
 use Rattle.model.specs.Grid.{grid_edges}
-use Rattle.layout.specs.declared.Dirs.{Dirs}
-use Rattle.layout.specs.Shapes.{shape_of, Shaped, most_tiles}
+use Rattle.layout.specs.Bounds.{Bounded, most_tiles}
 
 -- a product of two numbers from 1 to 64
 pub product : (a b : ℕ) → a ≤ 64 → b ≤ 64 → a * b ≤ most_tiles
@@ -21,11 +20,11 @@ one_less a b h k = let p : b - 1 ≤ 63 = omega arith in mul-le-mul h p
 some : (a b : ℕ) → 1 ≤ a → 1 ≤ b → 1 ≤ a * b
 some a b h k = mul-le-mul h k
 
-module _ (W H K : ℕ) (d : Dirs) (w1 : 1 ≤ W) (w2 : W ≤ 64) (h1 : 1 ≤ H) (h2 : H ≤ 64) (k1 : 2 ≤ K) (k2 : K ≤ 8) where
+module _ (W H K : ℕ) (w1 : 1 ≤ W) (w2 : W ≤ 64) (h1 : 1 ≤ H) (h2 : H ≤ 64) (k1 : 2 ≤ K) (k2 : K ≤ 8) where
   edges_most : grid_edges W H ≤ 8064
   edges_most = omega (arith, less_one W H w2 h2, one_less W H w2 h2)
 
-  pub shaped : Shaped (shape_of W H K d)
+  pub shaped : Bounded W H K (W * H) (W * H) ((W - 1) * H) (grid_edges W H)
   shaped = record {
     w_least = w1;
     w_most = w2;

@@ -3,7 +3,7 @@
 use Rattle.std.specs.Prelude.{List, ℕ, ◌+◌, ◌*◌, ◌≤◌, ◌<◌}
 use Rattle.std.proofs.Common.{mul-le-mul_right, arith}
 use Rattle.layout.specs.Parts.{part}
-use Rattle.layout.specs.declared.Shape.{Shape}
+use Rattle.layout.specs.declared.shape.Shape.{Shape}
 
 -- the capacities stand from 0 on, at edge × K + (layer − 1); the nets on each layer likewise from here on
 abbrev pub loads_at : Shape → ℕ

@@ -1,6 +1,6 @@
 -- Which way the layers run, as the code has it.
 -- Assumes nothing.
-use Rattle.std.specs.Prelude.{Bool, true, false, cond, List, [], ◌∷◌, ◌≡◌, refl, ℕ, zero, suc, ◌+◌, ◌-◌, ◌/◌, ◌%◌, ◌^◌, ◌*◌, ◌≤◌, ◌<◌, eqb, ltb, length, get_or}
+use Rattle.std.specs.Prelude.{Bool, true, false, cond, List, [], ◌∷◌, ◌≡◌, refl, ℕ, zero, suc, ◌+◌, ◌-◌, ◌/◌, ◌%◌, ◌^◌, ◌*◌, ◌≤◌, ◌<◌, eqb, ltb, length, get_or, Some, None, Option as Maybe}
 use Rattle.std.proofs.Math.Option.{Option, none, some}
 use Rattle.std.proofs.Common.{sym, ap, ◌∙◌, mod-lt, mod-eq_of_lt, arith, lt-ltb, le-ltb, ltb-true, ltb-false, eqb-true, lit<, pow_pos}
 use Rattle.std.proofs.Math.Nat.{pow-succ', div-div-eq-div-mul, pow-le-pow_right}
@@ -8,8 +8,9 @@ use Rattle.std.proofs.lemmas.Bool.{eqb-false}
 use Rattle.std.proofs.lemmas.Nat.{mod-pow-add}
 use Rattle.model.specs.Job.{runs}
 use Rattle.model.specs.Lists.{up_from, bit, any, keep}
-use Rattle.layout.specs.declared.Dirs.{Dirs}
-use Rattle.layout.specs.declared.Dirs.TheVariants.{Any, Given}
+use Rattle.layout.specs.declared.shape.Dirs.{Dirs}
+use Rattle.layout.specs.declared.shape.Heading.{Heading}
+use Rattle.layout.specs.declared.shape.Heading.TheVariants.{East, North}
 
 -- the digits of a mask to base two, n of them, the lowest first
 abbrev pub digits_of : ℕ → ℕ → List ℕ
@@ -17,9 +18,14 @@ digits_of zero m = []
 digits_of (suc n) m = m % 2 ∷ digits_of n (m / 2)
 
 -- of k layers: "K letters `h` or `v`", 0 or 1
-abbrev pub dirs_of : ℕ → Dirs → Option (List ℕ)
-dirs_of k Any = none
-dirs_of k (Given m) = some (digits_of k m)
+abbrev pub dirs_of : ℕ → Maybe Dirs → Option (List ℕ)
+dirs_of k None = none
+dirs_of k (Some d) = some (digits_of k d.north)
+
+-- the number of a heading, 0 for east and 1 for north
+abbrev pub heading_number : Heading → ℕ
+heading_number East = 0
+heading_number North = 1
 
 -- ---- a layer runs one way
 
@@ -28,13 +34,13 @@ digit_at zero m l h = absurd (omega arith)
 digit_at (suc k) m zero h = omega arith
 digit_at (suc k) m (suc l) h = rw (pow-succ' 2 l, sym (div-div-eq-div-mul m 2 (2 ^ l))) (digit_at k (m / 2) l (omega arith))
 
-pub any_runs : (d : Dirs) → d ≡ Any → (k way l : ℕ) → true ≡ runs (dirs_of k d) way (l + 1)
+pub any_runs : (d : Maybe Dirs) → d ≡ None → (k way l : ℕ) → true ≡ runs (dirs_of k d) way (l + 1)
 any_runs d e k way l = rw e refl
 
-pub given-runs : (d : Dirs) (m : ℕ) → d ≡ Given m → (k way l : ℕ) → l < k → eqb (m / 2 ^ l % 2) way ≡ runs (dirs_of k d) way (l + 1)
+pub given-runs : (d : Maybe Dirs) (m : Dirs) → d ≡ Some m → (k way l : ℕ) → l < k → eqb (m.north / 2 ^ l % 2) way ≡ runs (dirs_of k d) way (l + 1)
 given-runs d m e k way l h =
     let z : l ≡ l + 1 - 1 = omega arith in
-    rw e (ap (λ (x : ℕ). eqb x way) (sym (digit_at k m l h) ∙ ap (λ (i : ℕ). get_or (digits_of k m) i 0) z))
+    rw e (ap (λ (x : ℕ). eqb x way) (sym (digit_at k m.north l h) ∙ ap (λ (i : ℕ). get_or (digits_of k m.north) i 0) z))
 
 -- ---- some layer runs one way, and how many do
 
@@ -110,15 +116,15 @@ pub full_is : (k : ℕ) → k ≤ 8 → (1 * 2 ^ k) % 4294967296 ≡ 2 ^ k
 full_is k h = let p : 2 ^ k ≤ 256 = pow-le-pow_right (lit< tt) h in let e : 1 * 2 ^ k ≡ 2 ^ k = omega arith in rw e (mod-eq_of_lt (omega arith))
 
 -- what the code finds of the mask m
-pub any-has : (d : Dirs) → d ≡ Any → (k way : ℕ) → 1 ≤ k → true ≡ any (runs (dirs_of k d) way) (up_from 1 k)
+pub any-has : (d : Maybe Dirs) → d ≡ None → (k way : ℕ) → 1 ≤ k → true ≡ any (runs (dirs_of k d) way) (up_from 1 k)
 any-has d e zero way h = absurd (omega arith)
 any-has d e (suc k) way h = rw e refl
 
-pub east-has : (d : Dirs) (m : ℕ) → d ≡ Given m → (k way : ℕ) → way ≡ 0 → ltb (m % 2 ^ k + 1) (2 ^ k) ≡ any (runs (dirs_of k d) way) (up_from 1 k)
-east-has d m e k way z = rw (e, z) (sym (layers-any k m 0 ∙ any-east k m))
+pub east-has : (d : Maybe Dirs) (m : Dirs) → d ≡ Some m → (k : ℕ) → ltb (m.north % 2 ^ k + 1) (2 ^ k) ≡ any (runs (dirs_of k d) 0) (up_from 1 k)
+east-has d m e k = rw e (sym (layers-any k m.north 0 ∙ any-east k m.north))
 
-pub north-has : (d : Dirs) (m : ℕ) → d ≡ Given m → (k way : ℕ) → way ≤ 1 → (way ≡ 0 → ⊥) → ltb 0 (m % 2 ^ k) ≡ any (runs (dirs_of k d) way) (up_from 1 k)
-north-has d m e k way few z = let one : way ≡ 1 = omega arith in rw (e, one) (sym (layers-any k m 1 ∙ any-north k m))
+pub north-has : (d : Maybe Dirs) (m : Dirs) → d ≡ Some m → (k : ℕ) → ltb 0 (m.north % 2 ^ k) ≡ any (runs (dirs_of k d) 1) (up_from 1 k)
+north-has d m e k = rw e (sym (layers-any k m.north 1 ∙ any-north k m.north))
 
 -- one layer more is counted, or not
 pub count-more : (f : ℕ → Bool) (l k : ℕ) → l < k → length (keep f (up_from (l + 1) (k - l))) ≡ bit (f (l + 1)) + length (keep f (up_from (l + 1 + 1) (k - (l + 1))))

@@ -1,3 +1,4 @@
+pub mod Bounds
 pub mod Dirs
 pub mod Shapes
 pub mod Parts

@@ -1,50 +1,34 @@
 -- The stack and the grid as the code has them.
 -- Assumes nothing.
-use Rattle.std.specs.Prelude.{cond, ◌≡◌, ℕ, zero, suc, ◌+◌, ◌-◌, ◌*◌, ◌/◌, ◌≤◌, ◌<◌, ltb}
+use Rattle.std.specs.Prelude.{cond, ◌≡◌, ℕ, zero, suc, ◌+◌, ◌-◌, ◌*◌, ◌/◌, ◌≤◌, ◌<◌, ltb, Option, Some, None}
 use Rattle.std.proofs.Common.{mul-le-mul_right, suc-mul, mul_comm, arith}
-use Rattle.model.specs.Grid.{tiles, east_count, grid_edges}
-use Rattle.model.specs.Limits.{least_side, most_side, least_layers, most_layers}
+use Rattle.model.specs.Limits.{least_layers, most_layers}
 use Rattle.model.specs.Read.{Sizes}
+use Rattle.layout.specs.Bounds.{Bounded}
 use Rattle.layout.specs.Dirs.{dirs_of}
-use Rattle.layout.specs.declared.Dirs.{Dirs}
-use Rattle.layout.specs.declared.Made.{Made}
-use Rattle.layout.specs.declared.Made.TheVariants.{Stack as stacked, Outside}
-use Rattle.layout.specs.declared.Shape.{Shape}
+use Rattle.layout.specs.declared.shape.Dirs.{Dirs}
+use Rattle.layout.specs.declared.shape.Shape.{Shape}
+use Rattle.layout.specs.declared.Stack.{Stack}
 use Rattle.layout.specs.declared.Way.{Way}
 
 -- "K, the value of `layers`, is from 2 to 8"
-abbrev pub stack_of : ℕ → Made
-stack_of k = cond (ltb k least_layers) Outside (cond (ltb most_layers k) Outside (stacked (record { layers = k })))
+abbrev pub stack_of : ℕ → Option Stack
+stack_of k = cond (ltb k least_layers) None (cond (ltb most_layers k) None (Some (record { layers = k })))
 
-abbrev pub shape_of : ℕ → ℕ → ℕ → Dirs → Shape
-shape_of W H K d = record { w = W; h = H; k = K; t = tiles W H; m = tiles W H; east = east_count W H; e = grid_edges W H; dirs = d }
-
--- the most tiles of a grid
-abbrev pub most_tiles : ℕ
-most_tiles = most_side * most_side
+-- the shape of these sizes: its other numbers follow, since it is a shape
+pub record ShapeOf (W H K : ℕ) (d : Option Dirs) (g : Shape) : Type 0 where
+  pub width : g.w ≡ W
+  pub height : g.h ≡ H
+  pub layers : g.k ≡ K
+  pub dirs : g.dirs ≡ d
 
 -- what the lines of a net are judged by
 abbrev pub sizes_of : Shape → Sizes
 sizes_of g = record { width = g.w; height = g.h; layers = g.k; dirs = dirs_of g.k g.dirs }
 
--- a shape of sizes within document 01's limits, and how large its numbers can be
-pub record Shaped (g : Shape) : Type 0 where
-  pub w_least : least_side ≤ g.w
-  pub w_most : g.w ≤ most_side
-  pub h_least : least_side ≤ g.h
-  pub h_most : g.h ≤ most_side
-  pub k_least : least_layers ≤ g.k
-  pub k_most : g.k ≤ most_layers
-  pub t_is : g.t ≡ tiles g.w g.h
-  pub east_is : g.east ≡ east_count g.w g.h
-  pub e_is : g.e ≡ grid_edges g.w g.h
-  pub m_is : g.m ≡ g.t
-  pub t_least : 1 ≤ g.t
-  pub t_most : g.t ≤ most_tiles
-  pub east_most : g.east ≤ g.e
-  pub e_most : g.e ≤ 8064
-  pub e_tiles : g.e ≤ 2 * g.t
-  pub all_most : g.k * g.e ≤ 64512
+-- a shape of sizes within document 01's limits, and how large its numbers can be: so is every shape
+abbrev pub Shaped : Shape → Type 0
+Shaped g = Bounded g.w g.h g.k g.t g.m g.east g.e
 
 -- the way by its number: 0 east, 1 north, 2 west, 3 south
 abbrev pub way_of : Shape → ℕ → ℕ → Way

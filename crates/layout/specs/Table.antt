@@ -2,6 +2,8 @@
 -- Assumes nothing.
 use Rattle.std.specs.Prelude.{List, ℕ, ◌+◌, ◌*◌, ◌/◌, ◌%◌, get_or, set}
 use Rattle.model.specs.Limits.{most_nets}
+use Rattle.layout.specs.declared.Column.{Column}
+use Rattle.layout.specs.declared.Column.TheVariants.{Pins, Edges, Tiles, Turn, First, Count, Vias}
 
 -- the numbers of a row
 abbrev pub net_columns : ℕ
@@ -44,8 +46,18 @@ dropped_in table i = get_or table (count_column i) 0 / 65_536
 abbrev pub vias_column : ℕ → ℕ
 vias_column i = net_columns * i + 5
 
--- Until then that place has, in its last four bits, the lowest wanted layer of net i, 0 where it has no line `low`; and above them, from when it is known to when the
--- order list stands, the upper half of the score, whose lower half stands in the place of the tiles.
+-- where the number of a column stands in row i
+abbrev pub column_at : Column → ℕ → ℕ
+column_at Pins i = pins_column i
+column_at Edges i = edges_column i
+column_at Tiles i = tiles_column i
+column_at Turn i = turn_column i
+column_at First i = first_column i
+column_at Count i = count_column i
+column_at Vias i = vias_column i
+
+-- Until a net is placed the place of its vias has, in its last four bits, the lowest wanted layer of net i, 0 where it has no line `low`; and above them, from when
+-- it is known to when the order list stands, the upper half of the score, whose lower half stands in the place of the tiles.
 abbrev pub low_in : List ℕ → ℕ → ℕ
 low_in table i = get_or table (vias_column i) 0 % 16
 

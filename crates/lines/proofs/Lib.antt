@@ -1,4 +1,3 @@
-mod Ends
 mod Places
 mod Keys
 pub mod Ranges

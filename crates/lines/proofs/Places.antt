@@ -12,9 +12,9 @@ use lib.ListN.{drop, get_or}
 use Rattle.model.specs.Text.{Cut, cut_step, cut_line, is_digit, number}
 use Rattle.model.specs.Read.{Result, refused, found, next, form, value_in}
 use Rattle.text.specs.Entries.{on_number, ended_at}
-use Rattle.text.specs.Number.{digit_run, run, numbered}
+use Rattle.text.specs.Number.{numeral, digit_run, run, numbered}
 use Rattle.text.specs.declared.Numeral.{Numeral}
-use Rattle.text.specs.declared.Numeral.TheVariants.{Value, Malformed}
+use Rattle.std.specs.Prelude.{Option as Maybe, Some, None}
 use Rattle.scan.specs.Lines.{undigits, undigits-no, NoDigit, no_number}
 use Rattle.scan.specs.Places.{after}
 use Rattle.lines.specs.Digits.{cut_behind, cut-run, past, ended_by, head_at, tail_at}
@@ -42,16 +42,16 @@ number-run n t = rw (cut-run t) (go (undigits t) (undigits-no t))
         test (no m) = rw (ne_eqb c 10 m) (other c h (cut_line u))
 
 -- a number that was read, in the definitions' words
-abbrev pub numeral_told : ℕ → List ℕ → Numeral → Result ℕ
-numeral_told n s Malformed = refused 2 n
-numeral_told n s (Value v m) = found v (record { line = n; rest = drop m s })
+abbrev pub numeral_told : ℕ → List ℕ → Maybe Numeral → Result ℕ
+numeral_told n s None = refused 2 n
+numeral_told n s (Some m) = found m.value (record { line = n; rest = drop m.next s })
 
 pub number-value : (n : ℕ) (s : List ℕ) (at : ℕ) → next (value_in 2 n (cut_line (drop at s)) []) (λ v. form 2 (number v)) ≡ numeral_told n s (ended_at s at 10)
 number-value n s at =
     number-run n (drop at s) ∙ rw (after s at, head_at s (past s at), tail_at s (past s at), ended_by s at 10) (go (number (run s at)) (past s at))
   where
     go : (o : Option ℕ) (m : ℕ) → cond (eqb (get_or s m 0) 10) (form 2 o (record { line = n; rest = drop (m + 1) s })) (refused 2 n)
-        ≡ numeral_told n s (on_number (numbered m o) (λ v k. cond (eqb (get_or s k 0) 10) (Value v (k + 1)) Malformed) Malformed)
+        ≡ numeral_told n s (on_number (numbered m o) (λ v k. cond (eqb (get_or s k 0) 10) (Some (numeral v (k + 1))) None) None)
     go none m = test (eqb (get_or s m 0) 10)
       where
         test : (q : Bool) → cond q (form {A = ℕ} 2 none (record { line = n; rest = drop (m + 1) s })) (refused 2 n) ≡ refused 2 n
@@ -59,6 +59,6 @@ number-value n s at =
         test false = refl
     go (some v) m = test (eqb (get_or s m 0) 10)
       where
-        test : (q : Bool) → cond q (form 2 (some v) (record { line = n; rest = drop (m + 1) s })) (refused 2 n) ≡ numeral_told n s (cond q (Value v (m + 1)) Malformed)
+        test : (q : Bool) → cond q (form 2 (some v) (record { line = n; rest = drop (m + 1) s })) (refused 2 n) ≡ numeral_told n s (cond q (Some (numeral v (m + 1))) None)
         test true = refl
         test false = refl

@@ -1,13 +1,13 @@
 -- Digits, and the byte behind them: at the beginning of a line, and at a place of the text.
 -- Assumes nothing.
-use Rattle.std.specs.Prelude.{◌≡◌, refl, Bool, true, false, cond, List, [], ◌∷◌, ◌++◌, ℕ, ◌+◌, ◌≤◌, ◌<◌, eqb, length, drop, get_or}
+use Rattle.std.specs.Prelude.{Option as Maybe, Some, None, ◌≡◌, refl, Bool, true, false, cond, List, [], ◌∷◌, ◌++◌, ℕ, ◌+◌, ◌≤◌, ◌<◌, eqb, length, drop, get_or}
 use Rattle.std.proofs.Math.Option.{none, some}
-use Rattle.std.proofs.Common.{arith, ne_eqb, eqb-true, drop-drop}
+use Rattle.std.proofs.lemmas.Option.{same_Some, none-some}
+use Rattle.std.proofs.Common.{sym, ap, arith, ne_eqb, eqb-true, drop-drop}
 use Rattle.model.specs.Text.{Cut, cut_step, cut_line, is_digit, number}
 use Rattle.text.specs.Entries.{on_number, ended_at}
-use Rattle.text.specs.Number.{digit_run, run, numbered, number_at}
+use Rattle.text.specs.Number.{numeral, digit_run, run, numbered, number_at}
 use Rattle.text.specs.declared.Numeral.{Numeral}
-use Rattle.text.specs.declared.Numeral.TheVariants.{Value, Malformed}
 use Rattle.scan.specs.Lines.{digit_not, undigits}
 use Rattle.scan.specs.Places.{number-at, head-drop, get_d-in}
 
@@ -45,7 +45,7 @@ past s at = at + length (run s at)
 
 -- what a number with its end is, by what the digits are and the byte behind them
 pub ended_by : (s : List ℕ) (at end : ℕ) →
-    ended_at s at end ≡ on_number (numbered (past s at) (number (run s at))) (λ v n. cond (eqb (get_or s n 0) end) (Value v (n + 1)) Malformed) Malformed
+    ended_at s at end ≡ on_number (numbered (past s at) (number (run s at))) (λ v n. cond (eqb (get_or s n 0) end) (Some (numeral v (n + 1))) None) None
 unfolding ended_at
 ended_by s at end = rw (number-at s at)
 
@@ -57,17 +57,16 @@ module _ (s : List ℕ) (n : ℕ) where
   pub tail_at : drop 1 (drop n s) ≡ drop (n + 1) s
   tail_at = drop-drop 1 n s
 
-pub ended-within : (s : List ℕ) (at end v n : ℕ) → 0 < end → ended_at s at end ≡ Value v n → n ≤ length s
+pub ended-within : (s : List ℕ) (at end : ℕ) (n : Numeral) → 0 < end → Some n ≡ ended_at s at end → n.next ≤ length s
 unfolding ended_at
-ended-within s at end v n pos e = go (number_at s at) e
+ended-within s at end n pos e = go (number_at s at) e
   where
-    not-value : Malformed ≡ Value v n → ⊥
-    not-value q = let y : ◌≡◌ {A = ℕ} 0 1 = cc in omega arith
+    test : (x m : ℕ) (q : Bool) → eqb (get_or s m 0) end ≡ q → Some n ≡ cond q (Some (numeral x (m + 1))) None → n.next ≤ length s
+    test x m true h k =
+        let i = ap (λ (r : Numeral). r.next) (same_Some n (numeral x (m + 1)) k) in
+        omega (arith, i, get_d-in s m end (eqb-true (get_or s m 0) end h) pos)
+    test x m false h k = absurd (none-some n (sym k))
 
-    test : (x m : ℕ) (q : Bool) → eqb (get_or s m 0) end ≡ q → cond q (Value x (m + 1)) Malformed ≡ Value v n → n ≤ length s
-    test x m true h k = let i : m + 1 ≡ n = cc in omega (arith, get_d-in s m end (eqb-true (get_or s m 0) end h) pos)
-    test x m false h k = absurd (not-value k)
-
-    go : (o : Numeral) → on_number o (λ x m. cond (eqb (get_or s m 0) end) (Value x (m + 1)) Malformed) Malformed ≡ Value v n → n ≤ length s
-    go Malformed h = absurd (not-value h)
-    go (Value x m) h = test x m (eqb (get_or s m 0) end) refl h
+    go : (o : Maybe Numeral) → Some n ≡ on_number o (λ x m. cond (eqb (get_or s m 0) end) (Some (numeral x (m + 1))) None) None → n.next ≤ length s
+    go None h = absurd (none-some n (sym h))
+    go (Some o) h = test o.value o.next (eqb (get_or s o.next 0) end) refl h

@@ -2,27 +2,12 @@
 #![tactic(auto)]
 
 ghost use Rattle.std.specs.Prelude.{◌≡◌, true, ◌+◌, ◌<◌, ◌≤◌, ◌^◌, length};
-ghost use Rattle.text.specs.Entries.{ended_at};
 ghost use Rattle.text.specs.Refusals.{place_of};
-ghost use Rattle.lines.specs.Keyed.{one_line, number_line_by, ranged_by};
-ghost use Rattle.lines.specs.Told.{field_told, field_in};
-ghost use Rattle.lines.specs.Reads.{keyed, behind_of, opened_of, in_range};
+ghost use Rattle.lines.specs.Keyed.{one_line, line_by, number_line_by, ranged_by};
+ghost use Rattle.lines.specs.Told.{line_told, field_told, field_in};
+ghost use Rattle.lines.specs.Reads.{keyed, behind_of, opened_of, expected_of};
 
-use text::{Cursor, Fault, Numeral, Refusal};
-
-// A number and the place of the next line.
-#[derive(Clone, Copy)]
-pub enum Field {
-    Value(usize, Cursor),
-    Refused(Refusal),
-}
-
-// A list that was read and stored: the place of the next line.
-#[derive(Clone, Copy)]
-pub enum Listed {
-    Next(Cursor),
-    Refused(Refusal),
-}
+use text::{Cursor, Fault, Refusal};
 
 // ---- the reader
 
@@ -30,13 +15,6 @@ pub enum Listed {
 #[derive(Clone, Copy)]
 pub struct Reader<'a> {
     pub text: &'a [u8],
-    pub place: Cursor,
-}
-
-// The next line of the text: whether it has the key, and the place behind the key, one line further.
-#[derive(Clone, Copy)]
-pub struct Opened {
-    pub there: bool,
     pub place: Cursor,
 }
 
@@ -85,83 +63,57 @@ pub fn moved<'a>(r: Reader<'a>, n: usize) -> Reader<'a>
     }
 }
 
-// The line at a place of the text. Every line of the text is opened here, whatever follows its key; where the key is not there, whoever asks refuses the
-// line or goes on without it.
-pub fn open_line<'a>(s: &'a [u8], c: Cursor, key: &'a [u8]) -> Opened
+// The line at a place of the text: the place behind its key, one line further, or nothing where the key is not there. Every line of the text is opened
+// here, whatever follows its key; where the key is not there, whoever asks refuses the line or goes on without it.
+pub fn open_line<'a>(s: &'a [u8], c: Cursor, key: &'a [u8]) -> Option<Cursor>
     requires { (c.at ≤ length s.now) × (c.line < 1048576) }
     ensures { result ≡ opened_of s.now c key.now }
 {
     let r = reader_at(s, c);
-    let there = key_here(r, key);
-    let r = moved(r, key.len());
-    Opened {
-        there,
-        place: r.place,
+    if !key_here(r, key) {
+        return None;
     }
+    Some(moved(r, key.len()).place)
+}
+
+// The same, where the line may not be left out: without its key it is refused.
+pub fn expect_line<'a>(s: &'a [u8], c: Cursor, key: &'a [u8]) -> Result<Cursor, Refusal>
+    requires { (c.at ≤ length s.now) × (c.line < 1048576) × (one_line key.now ≡ true) }
+    ensures result_value { line_told s.now result ≡ line_by key.now (place_of s.now c) }
+    ensures opened { result ≡ expected_of s.now c key.now }
+{
+    open_line(s, c, key).ok_or(Refusal::Line(Fault::Form, c.line + 1))
 }
 
 // ---- lines with one number
 
-// The number at `at`, the byte `end` behind it, and the place after that.
-pub fn ended(s: &[u8], at: usize, end: u8) -> Numeral
-    requires { 0 < end }
-    ensures { result ≡ ended_at s.now at end }
-{
-    match text::number(s, at) {
-        Numeral::Malformed => Numeral::Malformed,
-        Numeral::Value(v, next) => {
-            if s.len() <= next {
-                return Numeral::Malformed;
-            }
-            if s[next] == end {
-                Numeral::Value(v, next + 1)
-            } else {
-                Numeral::Malformed
-            }
-        }
-    }
-}
-
-// A line with one number.
-pub fn number_line<'a>(s: &'a [u8], c: Cursor, key: &'a [u8]) -> Field
+// A line with one number: the number, and the place of the next line.
+pub fn number_line<'a>(s: &'a [u8], c: Cursor, key: &'a [u8]) -> Result<(usize, Cursor), Refusal>
     requires { (c.at ≤ length s.now) × (c.line < 1048576) × (one_line key.now ≡ true) }
     ensures result_value { field_told s.now result ≡ number_line_by key.now (place_of s.now c) }
     ensures field_in { field_in (length s.now) (c.line + 1) result }
 {
-    let o = open_line(s, c, key);
-    let line = o.place.line;
-    if !o.there {
-        return Field::Refused(Refusal::Line(Fault::Form, line));
-    }
-    match ended(s, o.place.at, 10) {
-        Numeral::Malformed => Field::Refused(Refusal::Line(Fault::Form, line)),
-        Numeral::Value(v, next) => Field::Value(v, Cursor { at: next, line }),
-    }
-}
-
-// The number of a line, where it is from `low` to `high`.
-fn in_range(f: Field, low: usize, high: usize) -> Field
-    ensures { result ≡ in_range low high f }
-{
-    match f {
-        Field::Refused(r) => Field::Refused(r),
-        Field::Value(v, d) => {
-            if v < low {
-                return Field::Refused(Refusal::Line(Fault::Range, d.line));
-            }
-            if high < v {
-                return Field::Refused(Refusal::Line(Fault::Range, d.line));
-            }
-            Field::Value(v, d)
-        }
-    }
+    let d = expect_line(s, c, key)?;
+    let line = d.line;
+    let n = text::ended(s, d.at, b'\n').ok_or(Refusal::Line(Fault::Form, line))?;
+    Ok((n.value, Cursor { at: n.next, line }))
 }
 
 // A line with one number from `low` to `high`.
-pub fn ranged<'a>(s: &'a [u8], c: Cursor, key: &'a [u8], low: usize, high: usize) -> Field
+pub fn ranged<'a>(
+    s: &'a [u8],
+    c: Cursor,
+    key: &'a [u8],
+    low: usize,
+    high: usize,
+) -> Result<(usize, Cursor), Refusal>
     requires { (c.at ≤ length s.now) × (c.line < 1048576) × (one_line key.now ≡ true) }
     ensures result_value { field_told s.now result ≡ ranged_by key.now low high (place_of s.now c) }
     ensures field_in { field_in (length s.now) (c.line + 1) result }
 {
-    in_range(number_line(s, c, key), low, high)
+    let (v, d) = number_line(s, c, key)?;
+    if v < low || high < v {
+        return Err(Refusal::Line(Fault::Range, d.line));
+    }
+    Ok((v, d))
 }

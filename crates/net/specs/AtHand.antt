@@ -2,7 +2,7 @@
 -- Assumes nothing.
 use Rattle.std.specs.Prelude.{◌&&◌, List, ◌≡◌, ℕ, ◌+◌, ◌-◌, ◌≤◌, ◌<◌, length, get_or}
 use Rattle.layout.specs.Areas.{list_at, tiles_of}
-use Rattle.layout.specs.declared.Shape.{Shape}
+use Rattle.layout.specs.declared.shape.Shape.{Shape}
 use Rattle.marks.specs.Marks.{marked}
 use Rattle.marks.specs.Words.{Fits}
 use Rattle.model.specs.Job.{Pin, Net}

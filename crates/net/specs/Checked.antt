@@ -3,8 +3,8 @@
 use Rattle.std.specs.Prelude.{List, ◌≡◌, ℕ, suc, ◌+◌, ◌*◌, ◌≤◌, ◌<◌, length, get_or}
 use Rattle.layout.specs.Areas.{loads_at, demand_at, areas_end, tiles_of, links_of}
 use Rattle.layout.specs.Dirs.{dirs_of}
-use Rattle.layout.specs.Shapes.{shape_of, Shaped}
-use Rattle.layout.specs.declared.Shape.{Shape}
+use Rattle.layout.specs.Shapes.{ShapeOf, Shaped}
+use Rattle.layout.specs.declared.shape.Shape.{Shape}
 use Rattle.marks.specs.Marks.{Older}
 use Rattle.model.specs.Job.{Job, net_count}
 use Rattle.model.specs.Overflow.{flat_demand}
@@ -12,7 +12,7 @@ use Rattle.net.specs.SoFar.{Capacities}
 use Rattle.net.specs.Table.{Table, PinTiles, Marks}
 
 pub record Checked (s : List ℕ) (g : Shape) (j : Job) (w table : List ℕ) : Type 0 where
-  pub shape : g ≡ shape_of j.width j.height j.layers g.dirs
+  pub shape : ShapeOf j.width j.height j.layers g.dirs g
   pub dirs : dirs_of g.k g.dirs ≡ j.dirs
   pub shaped : Shaped g
   pub room : areas_end g ≤ length w

@@ -5,7 +5,7 @@ use Rattle.std.proofs.Common.{sym, ap, ◌∙◌, arith}
 use Rattle.layout.specs.Areas.{tiles_at, tiles_of, links_of}
 use Rattle.layout.specs.Parts.{Outside, outside-then, outside-same}
 use Rattle.layout.specs.Shapes.{Shaped}
-use Rattle.layout.specs.declared.Shape.{Shape}
+use Rattle.layout.specs.declared.shape.Shape.{Shape}
 use Rattle.marks.specs.Marks.{Older}
 use Rattle.model.specs.Cut.{cut, pinned}
 use Rattle.model.specs.Job.{Net}

@@ -1,21 +1,21 @@
 -- What is left of an `edges` line that is read again, entry by entry.
 -- Assumes nothing.
-use Rattle.std.specs.Prelude.{true, false, List, [], ◌∷◌, ◌++◌, map, ◌≡◌, ℕ, ◌+◌, ◌≤◌, ◌<◌, length, drop, get_or}
+use Rattle.std.specs.Prelude.{Some, None, Bool, true, false, List, [], ◌∷◌, ◌++◌, map, ◌≡◌, refl, ℕ, ◌+◌, ◌≤◌, ◌<◌, length, drop, get_or}
 use Rattle.std.proofs.Common.{append_assoc, ⊎_elim, sym, ap, ◌∙◌, arith, length-append, drop_of_length-le}
 use Rattle.std.proofs.Math.Option.{some}
 use Rattle.layout.specs.Shapes.{Shaped}
-use Rattle.layout.specs.declared.Shape.{Shape}
+use Rattle.layout.specs.declared.shape.Shape.{Shape}
 use Rattle.model.specs.Grid.{grid_edges}
 use Rattle.model.specs.Job.{Net}
 use Rattle.model.specs.Lists.{all, has, occurs}
 use Rattle.model.specs.Read.{Triple, edge_inside, edge_at}
-use Rattle.scan.specs.Edges.{edge-is, edge-way}
+use Rattle.scan.specs.Edges.{edge-is, edge_told, edge-way}
 use Rattle.scan.specs.First.{some-none, front, one_line, all_first}
 use Rattle.scan.specs.Pins.{triple}
 use Rattle.scan.specs.Places.{drop-byte, head-drop}
 use Rattle.scan.specs.Ways.{edges_of, edges-empty, edges_some}
 use Rattle.text.specs.Entries.{edge_entry_at}
-use Rattle.text.specs.declared.Entry.TheVariants.{More, Last, Bad}
+use Rattle.text.specs.declared.Entry.{Entry}
 use Rattle.theory.specs.congestion.Sums.{lt-or-ge, same_refl}
 use Rattle.theory.specs.links.Nets.{NetOk}
 use Rattle.theory.specs.links.Scores.{few-numbers}
@@ -102,38 +102,48 @@ module _ (s : List ℕ) (W H p : ℕ) where
   -- ---- the entry at i
 
   module _ (i : ℕ) (es : List ℕ) (left : EdgesLeft s W H p i es) where
-    pub left-bad : {A : Type 0} → Bad ≡ edge_entry_at s i → A
-    left-bad e = some-none (left.entries, left.rest) (sym left.there ∙ edge-is s i Bad e)
+    pub left-bad : {A : Type 0} → None ≡ edge_entry_at s i → A
+    left-bad e = some-none (left.entries, left.rest) (sym left.there ∙ edge-is s i None e)
 
-    module _ (x y d next : ℕ) where
-      last-only : Last x y d next ≡ edge_entry_at s i → left.entries ≡ triple x y d ∷ []
-      last-only e = one_line left.entries (triple x y d ∷ []) left.rest (drop next s) (sym left.there ∙ edge-is s i (Last x y d next) e)
+    module _ (k : Entry) (is : Some k ≡ edge_entry_at s i) where
+      abbrev here : Triple
+      here = triple k.x k.y k.third
 
-      pub last-whole : Last x y d next ≡ edge_entry_at s i → (net : Net) → EdgesAt s W H p net → es ++ (edge_at W H (triple x y d) ∷ []) ≡ net.entries
+      last-only : k.last ≡ true → left.entries ≡ triple k.x k.y k.third ∷ []
+      last-only e = one_line left.entries (here ∷ []) left.rest (drop k.next s) (sym left.there ∙ edge_told s i k is true e)
+
+      pub last-whole : k.last ≡ true → (net : Net) → EdgesAt s W H p net → es ++ (edge_at W H (triple k.x k.y k.third) ∷ []) ≡ net.entries
       last-whole e net at = ap (λ (ts : List Triple). es ++ map (edge_at W H) ts) (sym (last-only e)) ∙ left.whole net at
 
-      pub last-next : Last x y d next ≡ edge_entry_at s i → EdgeNext s W H p es (triple x y d)
+      pub last-next : k.last ≡ true → EdgeNext s W H p es (triple k.x k.y k.third)
       last-next e = record {
-        inside = (all_first (edge_inside W H) (triple x y d) [] (ap (all (edge_inside W H)) (sym (last-only e)) ∙ left.inside)).0;
-        way = edge-way s i (Last x y d next) e;
+        inside = (all_first (edge_inside W H) here [] (ap (all (edge_inside W H)) (sym (last-only e)) ∙ left.inside)).0;
+        way = edge-way s i (Some k) is;
         whole = λ net at. ([], last-whole e net at);
       }
 
-      more-front : More x y d next ≡ edge_entry_at s i → (us : List Triple) × (edges_of (drop next s) ≡ some (us, left.rest)) × (left.entries ≡ triple x y d ∷ us)
-      more-front e = front (triple x y d) (edges_of (drop next s)) left.entries left.rest (sym left.there ∙ (edge-is s i (More x y d next) e).0)
+      more-front : k.last ≡ false → (us : List Triple) × (edges_of (drop k.next s) ≡ some (us, left.rest)) × (left.entries ≡ triple k.x k.y k.third ∷ us)
+      more-front e = front here (edges_of (drop k.next s)) left.entries left.rest (sym left.there ∙ (edge_told s i k is false e).0)
 
-      more-passes : (e : More x y d next ≡ edge_entry_at s i) → (edge_inside W H (triple x y d) ≡ true) × (all (edge_inside W H) (more-front e).0 ≡ true)
-      more-passes e = all_first (edge_inside W H) (triple x y d) (more-front e).0 (ap (all (edge_inside W H)) (sym (more-front e).2) ∙ left.inside)
+      more-passes : (e : k.last ≡ false) → (edge_inside W H (triple k.x k.y k.third) ≡ true) × (all (edge_inside W H) (more-front e).0 ≡ true)
+      more-passes e = all_first (edge_inside W H) here (more-front e).0 (ap (all (edge_inside W H)) (sym (more-front e).2) ∙ left.inside)
 
-      pub more-next : More x y d next ≡ edge_entry_at s i → EdgeNext s W H p es (triple x y d)
+      pub more-next : k.last ≡ false → EdgeNext s W H p es (triple k.x k.y k.third)
       more-next e = record {
         inside = (more-passes e).0;
-        way = edge-way s i (More x y d next) e;
+        way = edge-way s i (Some k) is;
         whole = λ net at.
             (map (edge_at W H) (more-front e).0, ap (λ (ts : List Triple). es ++ map (edge_at W H) ts) (sym (more-front e).2) ∙ left.whole net at);
       }
 
-      pub more_left : More x y d next ≡ edge_entry_at s i → EdgesLeft s W H p next (es ++ (edge_at W H (triple x y d) ∷ []))
+      pub left-next : EdgeNext s W H p es (triple k.x k.y k.third)
+      left-next = go k.last refl
+        where
+          go : (q : Bool) → k.last ≡ q → EdgeNext s W H p es (triple k.x k.y k.third)
+          go true e = last-next e
+          go false e = more-next e
+
+      pub more_left : k.last ≡ false → EdgesLeft s W H p k.next (es ++ (edge_at W H (triple k.x k.y k.third) ∷ []))
       more_left e =
           let f = more-front e in
           record {
@@ -142,10 +152,10 @@ module _ (s : List ℕ) (W H p : ℕ) where
             there = f.1;
             inside = (more-passes e).1;
             whole = λ net at.
-                append_assoc es (edge_at W H (triple x y d) ∷ []) (map (edge_at W H) f.0)
+                append_assoc es (edge_at W H here ∷ []) (map (edge_at W H) f.0)
                 ∙ ap (λ (ts : List Triple). es ++ map (edge_at W H) ts) (sym f.2)
                 ∙ left.whole net at;
           }
 
-      pub more-place : More x y d next ≡ edge_entry_at s i → (i < next) × (next ≤ length s)
-      more-place e = ((edge-is s i (More x y d next) e).1, (edge-is s i (More x y d next) e).2)
+      pub more-place : k.last ≡ false → (i < k.next) × (k.next ≤ length s)
+      more-place e = let t = edge_told s i k is false e in (t.1, t.2)

@@ -3,7 +3,7 @@
 use Rattle.std.specs.Prelude.{List, ◌⊎◌, ◌≢◌, ◌≡◌, ℕ, suc, ◌+◌, ◌-◌, ◌*◌, ◌≤◌, ◌<◌, get_or}
 use Rattle.std.proofs.Common.{inl, inr, ⊎_elim, ap, ◌∙◌, mul-le-mul_right, arith}
 pub use Rattle.layout.specs.Areas.{edge-room}
-use Rattle.layout.specs.declared.Shape.{Shape}
+use Rattle.layout.specs.declared.shape.Shape.{Shape}
 use Rattle.model.specs.Job.{Job, capacity}
 use Rattle.model.specs.Limits.{most_capacity}
 use Rattle.net.specs.SoFar.{Capacities}

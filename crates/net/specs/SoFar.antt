@@ -2,7 +2,7 @@
 -- Assumes nothing.
 use Rattle.std.specs.Prelude.{true, false, List, ◌≡◌, ℕ, ◌+◌, ◌-◌, ◌*◌, ◌≤◌, ◌<◌, get_or}
 use Rattle.layout.specs.Areas.{loads_at, demand_at}
-use Rattle.layout.specs.declared.Shape.{Shape}
+use Rattle.layout.specs.declared.shape.Shape.{Shape}
 use Rattle.model.specs.Job.{Job, runs, group, layers_of, capacity}
 use Rattle.model.specs.Legal.{sum_over}
 use Rattle.model.specs.Overflow.{flat_overflow}

@@ -4,7 +4,7 @@ use Rattle.std.specs.Prelude.{◌≡◌, refl, ℕ, zero, suc, ◌+◌, ◌/◌,
 use Rattle.std.proofs.Common.{subst, mul-le-mul_left, arith, leb→le, ltb→lt}
 use Rattle.std.proofs.Math.Nat.{div-add-mod}
 use Rattle.layout.specs.Shapes.{Shaped, WayRoom, way_of}
-use Rattle.layout.specs.declared.Shape.{Shape}
+use Rattle.layout.specs.declared.shape.Shape.{Shape}
 use Rattle.theory.specs.walk.Ways.{way?, way_tile, way_edge}
 
 module _ (g : Shape) (shaped : Shaped g) where

@@ -1,5 +1,4 @@
 mod PinTurns
 mod Marked
-mod EdgeTurns
 mod Adds
 mod Whole

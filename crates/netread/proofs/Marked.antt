@@ -11,7 +11,7 @@ use lib.Seq.{get_or-set_same, get_or-set_other}
 use Rattle.layout.specs.Areas.{tiles_at, list_at, areas_end, tiles_of}
 use Rattle.layout.specs.Parts.{Outside, part-outside, set-outside}
 use Rattle.layout.specs.Shapes.{Shaped, way_of}
-use Rattle.layout.specs.declared.Shape.{Shape}
+use Rattle.layout.specs.declared.shape.Shape.{Shape}
 use Rattle.layout.specs.declared.Way.{Way}
 use Rattle.model.specs.Read.{edge_inside}
 use Rattle.scan.specs.Pins.{triple}

@@ -8,7 +8,7 @@ use lib.ListN.{length}
 use Rattle.layout.specs.Areas.{links_at, areas_end, tiles_of, links_of}
 use Rattle.layout.specs.Parts.{part_same}
 use Rattle.layout.specs.Shapes.{Shaped}
-use Rattle.layout.specs.declared.Shape.{Shape}
+use Rattle.layout.specs.declared.shape.Shape.{Shape}
 use Rattle.marks.specs.Marks.{Older}
 use Rattle.marks.specs.Words.{Fits}
 use Rattle.model.specs.Job.{Pin, Net, Job}

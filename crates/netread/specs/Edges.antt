@@ -4,14 +4,13 @@ use Rattle.std.specs.Prelude.{List, [], map, ◌≡◌, ℕ, ◌+◌, ◌≤◌,
 use Rattle.std.proofs.Math.Option.{none}
 use Rattle.std.proofs.Common.{◌∙◌}
 use Rattle.layout.specs.Areas.{tiles_at, links_at, list_at, stops_at, tiles_of}
-use Rattle.layout.specs.declared.Shape.{Shape}
+use Rattle.layout.specs.declared.shape.Shape.{Shape}
 use Rattle.marks.specs.Marks.{marks_after}
 use Rattle.marks.specs.Words.{Fits}
 use Rattle.model.specs.Job.{Pin, Net}
 use Rattle.model.specs.Read.{Triple}
 use Rattle.model.specs.Walk.{lowest_from}
 use Rattle.net.specs.AtHand.{AtHand}
-use Rattle.net.specs.Left.{EdgesLeft}
 use Rattle.theory.specs.links.Reach.{lo_of, hi_of}
 use Rattle.ways.specs.Ends.{after-long}
 use Rattle.ways.specs.Entry.{start_of, edge_of}
@@ -51,10 +50,6 @@ pub record EdgesMarked (g : Shape) (n low : ℕ) (es : List ℕ) (w w' : List �
   pub lowest : r.low ≡ lowest_from low (map (lo_of g.w g.h) es)
   pub elsewhere : Elsewhere g w w'
 
--- some edges of the line at p are marked and listed, and the others stand at i
-pub record EdgesGoing (s : List ℕ) (g : Shape) (n p i low : ℕ) (w w' : List ℕ) (v : Again) : Type 0 where
-  pub so_far : List ℕ
-  pub left : EdgesLeft s g.w g.h p i so_far
-  pub marked : EdgesMarked g n low so_far w w' v
-  -- no stamp is above n
-  pub fits : Fits n (tiles_of g w')
+-- the same, and no stamp is above n
+abbrev pub EdgesGoing : Shape → ℕ → ℕ → List ℕ → List ℕ → Again → List ℕ → Type 0
+EdgesGoing g n low w w' v es = EdgesMarked g n low es w w' v × Fits n (tiles_of g w')

@@ -7,7 +7,7 @@ use Rattle.std.proofs.Math.Seq.{get_or-append_seam}
 use Rattle.layout.specs.Areas.{tiles_at, list_at, areas_end, tiles_of}
 use Rattle.layout.specs.Parts.{part-long, Outside, set-outside}
 use Rattle.layout.specs.Shapes.{Shaped}
-use Rattle.layout.specs.declared.Shape.{Shape}
+use Rattle.layout.specs.declared.shape.Shape.{Shape}
 use Rattle.marks.specs.Marks.{marked, marks_after}
 use Rattle.marks.specs.Words.{Fits}
 use Rattle.model.specs.Job.{Pin}

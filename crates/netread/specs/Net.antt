@@ -3,7 +3,7 @@
 use Rattle.std.specs.Prelude.{List, map, ◌≡◌, ℕ, ◌+◌, ◌<◌, length, get_or}
 use Rattle.layout.specs.Areas.{tiles_at, tiles_of, links_of}
 use Rattle.layout.specs.Parts.{Outside}
-use Rattle.layout.specs.declared.Shape.{Shape}
+use Rattle.layout.specs.declared.shape.Shape.{Shape}
 use Rattle.marks.specs.Marks.{Older}
 use Rattle.model.specs.Job.{Net, Job}
 use Rattle.model.specs.Walk.{net_tiles, lowest_from, lowest}

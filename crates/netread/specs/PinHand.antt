@@ -6,7 +6,7 @@ use Rattle.std.proofs.Math.Decide.{ℕ_discrete}
 use Rattle.layout.specs.Areas.{tiles_at, chosen_at, tiles_of}
 use Rattle.layout.specs.Parts.{part-long}
 use Rattle.layout.specs.Shapes.{Shaped}
-use Rattle.layout.specs.declared.Shape.{Shape}
+use Rattle.layout.specs.declared.shape.Shape.{Shape}
 use Rattle.marks.specs.Marks.{marked, Older, marks_after, older-fits, none-marked}
 use Rattle.model.specs.Job.{Pin, Net, Job}
 use Rattle.model.specs.Lists.{any, has, In}

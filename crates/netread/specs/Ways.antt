@@ -5,7 +5,7 @@ use Rattle.std.specs.Prelude.{Bool, true, false, ◌&&◌, cond, ◌⊎◌, ◌�
 use Rattle.std.proofs.Common.{inl, inr, ⊎_elim, sym, ap, ◌∙◌, mod-lt, arith, eq-eqb, ne_eqb, eqb-true, ltb→lt, lt→ltb, le→leb}
 use Rattle.std.proofs.Math.Nat.{div-add-mod, div-eq_of_lt-le}
 use Rattle.layout.specs.Shapes.{Shaped, way_of}
-use Rattle.layout.specs.declared.Shape.{Shape}
+use Rattle.layout.specs.declared.shape.Shape.{Shape}
 use Rattle.model.specs.Read.{Triple, edge_inside}
 use Rattle.theory.specs.congestion.Sums.{lt-or-ge}
 use Rattle.theory.specs.links.Edges.{lo-is, hi-is}

@@ -6,19 +6,18 @@ use mathlib.Core.Path.{◌≡◌, refl, sym, ap, ap₂, ◌∙◌, subst}
 use Prim.Native.Nat.{ℕ, zero, suc, ◌+◌, ◌*◌, ◌≤◌}
 use native.Mathlib.Omega.{arith}
 use lib.ListN.{length, drop, get_or}
+use Rattle.std.specs.Prelude.{Ok, Err}
 use Rattle.cut.specs.Dropped.{CutDone}
-use Rattle.edges.specs.Line.{LineFound, LineRead}
+use Rattle.edges.specs.Line.{EdgesRead, LineFound, LineRead}
 use Rattle.edges.specs.Pins.{PinsFound, pins-found, pins-reading, pins-tiles, pins-begun}
 use Rattle.edges.specs.Reading.{edges_on, Reading, Few, Begun}
 use Rattle.edges.specs.declared.Edges.{Edges}
-use Rattle.edges.specs.declared.EdgesRead.{EdgesRead}
-use Rattle.edges.specs.declared.EdgesRead.TheVariants.{Refused as BadEdges}
 use Rattle.layout.specs.Areas.{demand_at, tiles_at, chosen_at, tiles_of, links_of}
 use Rattle.layout.specs.Dirs.{dirs_of}
 use Rattle.layout.specs.Parts.{Outside}
 use Rattle.layout.specs.Shapes.{sizes_of, Shaped}
 use Rattle.layout.specs.Table.{vias_column, table_size}
-use Rattle.layout.specs.declared.Shape.{Shape}
+use Rattle.layout.specs.declared.shape.Shape.{Shape}
 use Rattle.lines.specs.Told.{After, mapped, refused_by}
 use Rattle.marks.specs.Marks.{Older, fits-older}
 use Rattle.marks.specs.Words.{most_stamp}
@@ -28,10 +27,8 @@ use Rattle.model.specs.Read.{Place, Result, refused, found, pins_line, edges_lin
 use Rattle.model.specs.Score.{different_tiles}
 use Rattle.net.specs.Left.{entries-few}
 use Rattle.net.specs.Table.{PinsAt, counts_of, mark_of}
-use Rattle.pins.specs.Pins.{pins_in, pins_told, pins_marked}
+use Rattle.pins.specs.Pins.{PinsRead, pins_in, pins_told, pins_marked}
 use Rattle.pins.specs.declared.Pins.{Pins}
-use Rattle.pins.specs.declared.PinsRead.{PinsRead}
-use Rattle.pins.specs.declared.PinsRead.TheVariants.{Refused as BadPins, Line as PinsLine}
 use Rattle.text.specs.Refusals.{place_of, number_of, line_of}
 use Rattle.text.specs.declared.Cursor.{Cursor}
 use Rattle.text.specs.declared.Refusal.{Refusal}
@@ -97,7 +94,7 @@ module _ {A B : Type 0} where
   mapped-refused f (found a p) n l e = absurd (let y : ◌≡◌ {A = ℕ} 0 1 = cc in omega arith)
 
 -- where a fine `pins` line stands
-pub line-in : (size from line : ℕ) (r : PinsRead) (p : Pins) (d : Cursor) → r ≡ PinsLine p d → pins_in size from line r → (p.from ≡ from) × After size line d
+pub line-in : (size from line : ℕ) (r : PinsRead) (p : Pins) (d : Cursor) → r ≡ Ok (p, d) → pins_in size from line r → (p.from ≡ from) × After size line d
 line-in size from line r p d k h = rw k at h
 
 module _ (s : List ℕ) (c : Cursor) (g : Shape) (shaped : Shaped g) (i : ℕ) (w₀ : List ℕ) (ready : NetReady g i w₀) (m : ℕ) where
@@ -112,22 +109,19 @@ module _ (s : List ℕ) (c : Cursor) (g : Shape) (shaped : Shaped g) (i : ℕ) (
 
   -- the `pins` line is refused
   pub pins-bad : (a : List ℕ) (r : PinsRead) → pins_told s a r ≡ mapped (pins_marked (2 * i + 1) (tiles_of g w₀)) (pins_line (sizes_of g) (place_of s c))
-      → (f : Refusal) → r ≡ BadPins f → body_in (sizes_of g) (low_at m) (place_of s c) ≡ refused_by f
+      → (f : Refusal) → r ≡ Err f → body_in (sizes_of g) (low_at m) (place_of s c) ≡ refused_by f
   unfolding body_in
   pins-bad a r told f e =
       rw (mapped-refused (pins_marked (2 * i + 1) (tiles_of g w₀)) (pins_line (sizes_of g) (place_of s c)) (number_of f) (line_of f) (ap (pins_told s a) (sym e) ∙ told))
 
   -- it is fine
-  module _ (w₁ : List ℕ) (p : Pins) (d : Cursor) (told : pins_told s (tiles_of g w₁) (PinsLine p d) ≡ mapped (pins_marked (2 * i + 1) (tiles_of g w₀)) (pins_line (sizes_of g) (place_of s c)))
+  module _ (w₁ : List ℕ) (p : Pins) (d : Cursor) (told : pins_told s (tiles_of g w₁) (Ok (p, d)) ≡ mapped (pins_marked (2 * i + 1) (tiles_of g w₀)) (pins_line (sizes_of g) (place_of s c)))
       (out : Outside (tiles_at g) g.t w₀ w₁) (at : (p.from ≡ c.at + 5) × After (length s) (c.line + 1) d) where
     pub fine : PinsFound g (2 * i + 1) s c (tiles_of g w₀) (tiles_of g w₁) p d
     fine = pins-found g shaped (2 * i + 1) s c (tiles_of g w₀) (tiles_of g w₁) p d told
 
     pub still-few : Few g (2 * i + 1) w₁
     still-few e h = omega (arith, out.low (demand_at g + e) (omega arith), ready.few e h)
-
-    pub still-room : chosen_at g ≤ length w₁
-    still-room = omega (arith, out.long, ready.room)
 
     pub begun : Begun g (2 * i + 1) p.tiles w₁
     begun =
@@ -140,7 +134,7 @@ module _ (s : List ℕ) (c : Cursor) (g : Shape) (shaped : Shaped g) (i : ℕ) (
         (pins-reading g (2 * i + 1) fine.pins fine.fit w₀ w₁ ready.room ready.marks ready.links out fine.marks)
 
     -- the `edges` line is refused
-    pub edges-bad : (w₂ : List ℕ) (r : EdgesRead) → LineRead g (2 * i + 1) s d fine.pins w₀ w₂ r → (f : Refusal) → r ≡ BadEdges f → body_in (sizes_of g) (low_at m) (place_of s c) ≡ refused_by f
+    pub edges-bad : (w₂ : List ℕ) (r : EdgesRead) → LineRead g (2 * i + 1) s d fine.pins w₀ w₂ r → (f : Refusal) → r ≡ Err f → body_in (sizes_of g) (low_at m) (place_of s c) ≡ refused_by f
     unfolding body_in
     edges-bad w₂ r line f e = rw (fine.is, subst (λ (z : EdgesRead). LineRead g (2 * i + 1) s d fine.pins w₀ w₂ z) e line)
 

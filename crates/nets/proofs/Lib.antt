@@ -1,5 +1,4 @@
 mod Turns
-mod Stores
 mod Stand
 mod Body
 pub mod Loop

@@ -12,7 +12,7 @@ use Rattle.layout.specs.Dirs.{dirs_of}
 use Rattle.layout.specs.Parts.{part, part_at}
 use Rattle.layout.specs.Shapes.{sizes_of, Shaped}
 use Rattle.layout.specs.Table.{pins_column, edges_column, tiles_column, first_column, count_column, vias_column}
-use Rattle.layout.specs.declared.Shape.{Shape}
+use Rattle.layout.specs.declared.shape.Shape.{Shape}
 use Rattle.lines.specs.Told.{refused_by}
 use Rattle.marks.specs.Words.{stamp_unit}
 use Rattle.model.specs.Job.{Net, no_net, lengths}
@@ -255,13 +255,6 @@ module _ (s : List ℕ) (g : Shape) (shaped : Shaped g) (n from : ℕ) (w₀ : L
           ∙ ap (λ (x : Result Net). ahead mid.done (next x (λ m q. next (nets (sizes_of g) (suc (i + 1)) (n - (i + 1)) q) (λ ms q'. found (m ∷ ms) q')))) f.is
           ∙ ahead-one mid.done f.net (nets (sizes_of g) (suc (i + 1)) (n - (i + 1)) (place_of s d));
     }
-
-    pub midway-count : i < n → (w' table' : List ℕ) (d : Cursor) (count : ℕ)
-        → NetFound s g i entries (λ n. c.line + 3 + option_lines n.low) w w' table table' (net_lines (sizes_of g) (i + 1) (place_of s c)) d count
-        → entries + count ≤ (i + 1) * 8_064
-    midway-count h w' table' d count f =
-        let m = midway-next h w' table' d count f in
-        omega (arith, nets-few s g shaped m.done (entries + count) w₀ w' table' m.so_read, m.count)
 
     pub midway_end : n ≤ i → NetsFound s g n from w₀ w table r c entries
     midway_end h =

@@ -8,16 +8,14 @@ use Prim.Native.Nat.{ℕ, zero, suc, ◌+◌, ◌≤◌, ◌<◌}
 use native.Mathlib.Omega.{arith}
 use lib.ListN.{length, get_or, set, length-set}
 use lib.Seq.{get_or-set_same, get_or-set_other}
+use Rattle.std.specs.Prelude.{Some, None, Ok, Err, is_some, Option as Maybe, Result as Outcome}
 use Rattle.layout.specs.Shapes.{sizes_of}
 use Rattle.layout.specs.Table.{vias_column, table_size}
-use Rattle.layout.specs.declared.Shape.{Shape}
+use Rattle.layout.specs.declared.shape.Shape.{Shape}
 use Rattle.lines.specs.Keyed.{key_bytes, ranged_by, ranged-is}
 use Rattle.lines.specs.Opens.{key-there, key-other}
 use Rattle.lines.specs.Reads.{opened_of}
 use Rattle.lines.specs.Told.{field_told, refused_by, After}
-use Rattle.lines.specs.declared.Field.{Field}
-use Rattle.lines.specs.declared.Field.TheVariants.{Value, Refused}
-use Rattle.lines.specs.declared.Opened.{Opened}
 use Rattle.model.specs.Job.{Net}
 use Rattle.model.specs.Limits.{most_nets}
 use Rattle.model.specs.Read.{Place, Result, found, next, give, ranged, if_there, Sizes, low_line, pins_line, edges_line}
@@ -26,11 +24,7 @@ use Rattle.text.specs.declared.Cursor.{Cursor}
 use Rattle.text.specs.declared.Refusal.{Refusal}
 use Rattle.theory.specs.links.JobText.{option_lines}
 use Rattle.theory.specs.links.Reading.{any-gives, then-gives, gives_found, ranged-gives}
-use Rattle.nets.specs.Nets.{low_at, low_told, low_holds, body_in, rest_in, NetTold}
-use Rattle.nets.specs.declared.LowRead.{LowRead}
-use Rattle.nets.specs.declared.LowRead.TheVariants.{Low as marked, Refused as Unmarked}
-use Rattle.nets.specs.declared.NetRead.{NetRead}
-use Rattle.nets.specs.declared.NetRead.TheVariants.{Net as read, Refused as NetRefused}
+use Rattle.nets.specs.Nets.{LowRead, NetRead, low_at, low_told, low_holds, body_in, rest_in, NetTold}
 
 -- the bytes of `low=`
 abbrev pub key : List ℕ
@@ -45,38 +39,49 @@ one_line : (n : ℕ) → 1 ≤ n → option_lines (low_at n) ≡ 1
 one_line zero h = absurd (omega arith)
 one_line (suc n) h = refl
 
-module _ (s : List ℕ) (c : Cursor) (o : Opened) (e : o ≡ opened_of s c key) (k : ℕ) where
+-- whether there is a value
+module _ {A : Type 0} where
+  is-none : (o : Maybe A) → is_some o ≡ false → o ≡ None
+  is-none None h = refl
+  is-none (Some x) h = cc
+
+  is-some : (o : Maybe A) → is_some o ≡ true → (x : A) × (o ≡ Some x)
+  is-some None h = cc
+  is-some (Some x) h = (x, refl)
+
+module _ (s : List ℕ) (c : Cursor) (o : Maybe Cursor) (e : o ≡ opened_of s c key) (k : ℕ) where
   -- the key is not there: nothing is read
-  pub low-none : o.there ≡ false → low_told s (marked 0 c) ≡ low_line k (place_of s c)
+  pub low-none : is_some o ≡ false → low_told s (Ok (0, c)) ≡ low_line k (place_of s c)
   unfolding low_line
-  low-none t = sym (key-other s c key o e (λ l u. if_there u (ranged "low" 1 k) (place_of s c)) t)
+  low-none t = sym (key-other s c key (sym e ∙ is-none o t) (λ l u. if_there u (ranged "low" 1 k) (place_of s c)))
 
   -- it is there: the line has one number
-  module _ (t : o.there ≡ true) (f : Field) (told : field_told s f ≡ ranged_by (key_bytes "low") 1 k (place_of s c)) where
+  module _ (t : is_some o ≡ true) (f : Outcome (ℕ × Cursor) Refusal) (told : field_told s f ≡ ranged_by (key_bytes "low") 1 k (place_of s c)) where
     low_is : low_line k (place_of s c) ≡ next (field_told s f) (λ n. give (some n))
     unfolding low_line
     low_is =
-        key-there s c key o e (λ l u. if_there u (ranged "low" 1 k) (place_of s c)) t
+        let b = is-some o t in
+        key-there s c key b.0 (sym e ∙ b.1) (λ l u. if_there u (ranged "low" 1 k) (place_of s c))
         ∙ ap (λ (r : Result ℕ). next r (λ n. give (some n))) (ranged-is "low" 1 k (place_of s c) ∙ sym told)
 
-    pub low-refused : (r : Refusal) → f ≡ Refused r → low_told s (Unmarked r) ≡ low_line k (place_of s c)
-    low-refused r h = sym (low_is ∙ ap (λ (x : Field). next (field_told s x) (λ n. give (some n))) h)
+    pub low-refused : (r : Refusal) → f ≡ Err r → low_told s (Err r) ≡ low_line k (place_of s c)
+    low-refused r h = sym (low_is ∙ ap (λ (x : Outcome (ℕ × Cursor) Refusal). next (field_told s x) (λ n. give (some n))) h)
 
-    module _ (n : ℕ) (d : Cursor) (h : f ≡ Value n d) where
+    module _ (n : ℕ) (d : Cursor) (h : f ≡ Ok (n, d)) where
       pub low-range : (1 ≤ n) × (n ≤ k)
       low-range =
           gives_found (λ m. (1 ≤ m) × (m ≤ k)) (ranged "low" 1 k (place_of s c)) n (place_of s d) (ranged-is "low" 1 k (place_of s c) ∙ sym told ∙ ap (field_told s) h)
           (ranged-gives "low" 1 k (place_of s c))
 
-      pub low_value : low_told s (marked n d) ≡ low_line k (place_of s c)
+      pub low_value : low_told s (Ok (n, d)) ≡ low_line k (place_of s c)
       low_value =
-          sym (low_is ∙ ap (λ (x : Field). next (field_told s x) (λ m. give (some m))) h ∙ ap (λ (x : Option ℕ). found x (place_of s d)) (some-layer n low-range.0))
+          sym (low_is ∙ ap (λ (x : Outcome (ℕ × Cursor) Refusal). next (field_told s x) (λ m. give (some m))) h ∙ ap (λ (x : Option ℕ). found x (place_of s d)) (some-layer n low-range.0))
 
-      pub low-after : (size : ℕ) → After size (c.line + 1) d → low_holds size c.line (marked n d)
+      pub low-after : (size : ℕ) → After size (c.line + 1) d → low_holds size c.line (Ok (n, d))
       low-after size a = record { place = a.place; lines = omega (arith, a.lines, one_line n low-range.0) }
 
 -- where the answer's case is known
-pub low-holds : (r : LowRead) (size line m : ℕ) (c : Cursor) → r ≡ marked m c → low_holds size line r → After size (line + option_lines (low_at m)) c
+pub low-holds : (r : LowRead) (size line m : ℕ) (c : Cursor) → r ≡ Ok (m, c) → low_holds size line r → After size (line + option_lines (low_at m)) c
 low-holds r size line m c e h = rw e at h
 
 -- ---- the lines behind it
@@ -90,15 +95,15 @@ body-low z low p n q e =
     (λ ps p1 t1. then-gives (λ es. Unit {0}) (λ m. m.low ≡ low) (edges_line z ps p1) _ (any-gives (edges_line z ps p1)) (λ es p2 t2. refl)))
 
 module _ (s : List ℕ) (c : Cursor) (g : Shape) (i first : ℕ) (l : LowRead) (told : low_told s l ≡ low_line g.k (place_of s c)) where
-  pub rest-refused : (f : Refusal) → l ≡ Unmarked f → rest_in (sizes_of g) (place_of s c) ≡ refused_by f
+  pub rest-refused : (f : Refusal) → l ≡ Err f → rest_in (sizes_of g) (place_of s c) ≡ refused_by f
   unfolding rest_in
   rest-refused f e = ap (λ (x : Result (Option ℕ)). next x (λ low. body_in (sizes_of g) low)) (sym told ∙ ap (low_told s) e)
 
-  rest-is : (m : ℕ) (d : Cursor) → l ≡ marked m d → rest_in (sizes_of g) (place_of s c) ≡ body_in (sizes_of g) (low_at m) (place_of s d)
+  rest-is : (m : ℕ) (d : Cursor) → l ≡ Ok (m, d) → rest_in (sizes_of g) (place_of s c) ≡ body_in (sizes_of g) (low_at m) (place_of s d)
   unfolding rest_in
   rest-is m d e = ap (λ (x : Result (Option ℕ)). next x (λ low. body_in (sizes_of g) low)) (sym told ∙ ap (low_told s) e)
 
-  pub rest-goes-on : (m : ℕ) (d : Cursor) → l ≡ marked m d → d.line ≡ c.line + option_lines (low_at m) → (w w' table table₁ table' : List ℕ) (r : NetRead) → i < most_nets → table_size ≤ length table
+  pub rest-goes-on : (m : ℕ) (d : Cursor) → l ≡ Ok (m, d) → d.line ≡ c.line + option_lines (low_at m) → (w w' table table₁ table' : List ℕ) (r : NetRead) → i < most_nets → table_size ≤ length table
       → table₁ ≡ set table (vias_column i) m → NetTold s g i first (λ _. d.line + 2) w w' table₁ table' (body_in (sizes_of g) (low_at (get_or table₁ (vias_column i) 0)) (place_of s d)) r
       → NetTold s g i first (λ n. c.line + 2 + option_lines n.low) w w' table table' (rest_in (sizes_of g) (place_of s c)) r
   rest-goes-on m d e h w w' table table₁ table' r turn room put t =
@@ -108,13 +113,13 @@ module _ (s : List ℕ) (c : Cursor) (g : Shape) (i first : ℕ) (l : LowRead) (
     where
       go : (r : NetRead) → NetTold s g i first (λ _. d.line + 2) w w' table₁ table' (body_in (sizes_of g) (low_at m) (place_of s d)) r
           → NetTold s g i first (λ n. c.line + 2 + option_lines n.low) w w' table table' (rest_in (sizes_of g) (place_of s c)) r
-      go (NetRefused f) t = rest-is m d e ∙ t
-      go (read f count) t = record {
+      go (Err f) t = rest-is m d e ∙ t
+      go (Ok x) t = record {
         net = t.net;
         is = rest-is m d e ∙ t.is;
         after = record {
           place = t.after.place;
-          lines = omega (arith, t.after.lines, h, ap option_lines (body-low (sizes_of g) (low_at m) (place_of s d) t.net (place_of s f) t.is));
+          lines = omega (arith, t.after.lines, h, ap option_lines (body-low (sizes_of g) (low_at m) (place_of s d) t.net (place_of s x.0) t.is));
         };
         count_is = t.count_is;
         counted = t.counted;

@@ -1,14 +1,12 @@
 -- What the lines of a net, and of all nets, leave in the working numbers and in the net table.
 -- Assumes nothing.
-use Rattle.std.specs.Prelude.{List, ◌++◌, map, ◌≡◌, refl, ℕ, zero, suc, ◌+◌, ◌*◌, ◌≤◌, ◌<◌, length, get_or}
+use Rattle.std.specs.Prelude.{List, ◌++◌, map, ◌≡◌, refl, ℕ, zero, suc, ◌+◌, ◌*◌, ◌≤◌, ◌<◌, length, get_or, Ok, Err, Result as Outcome}
 use Rattle.std.proofs.Math.Option.{Option, none, some}
 use Rattle.edges.specs.Reading.{Few}
 use Rattle.layout.specs.Areas.{loads_at, demand_at, flat_at, tiles_at, chosen_at, tiles_of, links_of}
 use Rattle.layout.specs.Table.{table_size}
-use Rattle.layout.specs.declared.Shape.{Shape}
+use Rattle.layout.specs.declared.shape.Shape.{Shape}
 use Rattle.lines.specs.Told.{refused_by, After}
-use Rattle.lines.specs.declared.Listed.{Listed}
-use Rattle.lines.specs.declared.Listed.TheVariants.{Next, Refused as Unlisted}
 use Rattle.marks.specs.Marks.{Older}
 use Rattle.model.specs.Job.{Net, no_net, lengths}
 use Rattle.model.specs.Limits.{most_nets}
@@ -17,21 +15,28 @@ use Rattle.model.specs.Overflow.{demand}
 use Rattle.model.specs.Read.{Place, Result, Reading, refused, found, next, ◌>>=◌, give, Sizes, net_line, low_line, pins_line, edges_line, net_with, net_lines}
 use Rattle.text.specs.Refusals.{place_of}
 use Rattle.text.specs.declared.Cursor.{Cursor}
+use Rattle.text.specs.declared.Refusal.{Refusal}
 use Rattle.theory.specs.links.JobText.{option_lines, nets_lines}
 use Rattle.theory.specs.links.Nets.{NetOk, EachNet}
 use Rattle.theory.specs.links.Stretches.{offset}
 use Rattle.nets.specs.Rows.{RowAt}
-use Rattle.nets.specs.declared.LowRead.{LowRead}
-use Rattle.nets.specs.declared.LowRead.TheVariants.{Low as marked, Refused as Unmarked}
-use Rattle.nets.specs.declared.NetRead.{NetRead}
-use Rattle.nets.specs.declared.NetRead.TheVariants.{Net as read, Refused}
-use Rattle.nets.specs.declared.NetsRead.{NetsRead}
-use Rattle.nets.specs.declared.NetsRead.TheVariants.{Nets as all_read, Refused as NetsRefused}
+
+-- the lowest wanted layer of a net, 0 where it has no line `low`, and the place of the next line
+abbrev pub LowRead : Type 0
+LowRead = Outcome (ℕ × Cursor) Refusal
+
+-- the lines of a net: the place after them, and the entries of its `edges` line
+abbrev pub NetRead : Type 0
+NetRead = Outcome (Cursor × ℕ) Refusal
+
+-- the lines of all nets: the place after them, and the entries of all `edges` lines
+abbrev pub NetsRead : Type 0
+NetsRead = Outcome (Cursor × ℕ) Refusal
 
 -- the answer to a `net` line
-abbrev pub turn_told : List ℕ → Listed → Result (Unit {0})
-turn_told s (Next c) = found tt (place_of s c)
-turn_told s (Unlisted r) = refused_by r
+abbrev pub turn_told : List ℕ → Outcome Cursor Refusal → Result (Unit {0})
+turn_told s (Ok c) = found tt (place_of s c)
+turn_told s (Err r) = refused_by r
 
 -- a lowest wanted layer as a number has it: 0 where there is no line `low`
 abbrev pub low_at : ℕ → Option ℕ
@@ -40,12 +45,12 @@ low_at (suc m) = some (suc m)
 
 -- the answer to a line `low`, and where the next line comes
 abbrev pub low_told : List ℕ → LowRead → Result (Option ℕ)
-low_told s (marked m c) = found (low_at m) (place_of s c)
-low_told s (Unmarked r) = refused_by r
+low_told s (Ok x) = found (low_at x.0) (place_of s x.1)
+low_told s (Err r) = refused_by r
 
 abbrev pub low_holds : ℕ → ℕ → LowRead → Type 0
-low_holds size line (marked m c) = After size (line + option_lines (low_at m)) c
-low_holds size line (Unmarked r) = Unit {0}
+low_holds size line (Ok x) = After size (line + option_lines (low_at x.0)) x.1
+low_holds size line (Err r) = Unit {0}
 
 -- the `pins` and `edges` lines of a net
 unfoldable pub body_in : Sizes → Option ℕ → Reading Net
@@ -96,8 +101,8 @@ pub record NetFound (s : List ℕ) (g : Shape) (i first : ℕ) (line : Net → �
 
 -- the answer to the lines of a net, where the definitions say r
 abbrev pub NetTold : List ℕ → Shape → ℕ → ℕ → (Net → ℕ) → List ℕ → List ℕ → List ℕ → List ℕ → Result Net → NetRead → Type 0
-NetTold s g i first line w w' table table' r (Refused f) = r ≡ refused_by f
-NetTold s g i first line w w' table table' r (read c count) = NetFound s g i first line w w' table table' r c count
+NetTold s g i first line w w' table table' r (Err f) = r ≡ refused_by f
+NetTold s g i first line w w' table table' r (Ok x) = NetFound s g i first line w w' table table' r x.0 x.1
 
 -- ---- all nets
 
@@ -128,8 +133,8 @@ pub record NetsFound (s : List ℕ) (g : Shape) (n line : ℕ) (w₀ w table : L
   pub so_read : SoRead s g nets entries w₀ w table
 
 abbrev pub NetsTold : List ℕ → Shape → ℕ → ℕ → List ℕ → List ℕ → List ℕ → Result (List Net) → NetsRead → Type 0
-NetsTold s g n line w₀ w table r (NetsRefused f) = r ≡ refused_by f
-NetsTold s g n line w₀ w table r (all_read c entries) = NetsFound s g n line w₀ w table r c entries
+NetsTold s g n line w₀ w table r (Err f) = r ≡ refused_by f
+NetsTold s g n line w₀ w table r (Ok x) = NetsFound s g n line w₀ w table r x.0 x.1
 
 -- what nets are counted and marked in is zero, and what lies below it is as it was
 pub record CountsCleared (g : Shape) (w w' : List ℕ) : Type 0 where

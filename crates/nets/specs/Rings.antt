@@ -5,7 +5,7 @@ use Rattle.std.proofs.Common.{ap, ◌∙◌, arith}
 use Rattle.cut.specs.Dropped.{RingCounted, CutDone}
 use Rattle.cut.specs.Net.{RingAt}
 use Rattle.layout.specs.Areas.{demand_at, tiles_of, links_of}
-use Rattle.layout.specs.declared.Shape.{Shape}
+use Rattle.layout.specs.declared.shape.Shape.{Shape}
 use Rattle.marks.specs.Marks.{Older}
 use Rattle.model.specs.Job.{Net}
 use Rattle.model.specs.Lists.{In, occurs}

@@ -4,7 +4,7 @@
 ghost use Rattle.std.specs.Prelude.{◌≡◌, ◌+◌, ◌*◌, ◌<◌, ◌≤◌, length, get_or, set};
 ghost use Rattle.layout.specs.Areas.{tiles_at, chosen_at, tiles_of, links_of};
 ghost use Rattle.layout.specs.Parts.{Outside};
-ghost use Rattle.layout.specs.Shapes.{sizes_of, Shaped};
+ghost use Rattle.layout.specs.Shapes.{sizes_of};
 ghost use Rattle.layout.specs.Table.{vias_column, table_size};
 ghost use Rattle.lines.specs.Told.{list_in, mapped};
 ghost use Rattle.marks.specs.Marks.{Older};
@@ -20,69 +20,45 @@ ghost use Rattle.nets.specs.Rows.{most_entries, row_put};
 ghost use Rattle.nets.specs.Rings.{LinesAt, LinesCounted};
 ghost use Rattle.nets.specs.Nets.{turn_told, low_at, low_told, low_holds, body_in, rest_in, NetReady, NetTold, NetsReady, NetsTold};
 
-use edges::{Edges, EdgesRead};
-use layout::Shape;
-use lines::{Field, Listed};
-use pins::{Pins, PinsRead};
+use edges::Edges;
+use layout::{Column, Shape};
+use pins::Pins;
 use text::{Cursor, Fault, Refusal};
 
-// The lines of a net: the place after them, and the entries of its `edges` line.
-#[derive(Clone, Copy)]
-pub enum NetRead {
-    Net(Cursor, usize),
-    Refused(Refusal),
-}
-
-// The lines of all nets: the place after them, and the entries of all `edges` lines.
-#[derive(Clone, Copy)]
-pub enum NetsRead {
-    Nets(Cursor, usize),
-    Refused(Refusal),
-}
-
-// The line `net`: "1, 2, 3 and so on".
-fn net_line(s: &[u8], c: Cursor, turn: usize) -> Listed
+// The line `net`: "1, 2, 3 and so on". The place of the next line.
+fn net_line(s: &[u8], c: Cursor, turn: usize) -> Result<Cursor, Refusal>
     requires { (c.at ≤ length s.now) × (c.line < 1048576) }
     ensures result_value { turn_told s.now result ≡ net_line turn (place_of s.now c) }
     ensures list_in { list_in (length s.now) (c.line + 1) result }
 {
-    match lines::number_line(s, c, b"net=") {
-        Field::Refused(r) => Listed::Refused(r),
-        Field::Value(n, d) => {
-            if n != turn {
-                return Listed::Refused(Refusal::Line(Fault::Turn, d.line));
-            }
-            Listed::Next(d)
-        }
+    let (n, d) = lines::number_line(s, c, b"net=")?;
+    if n != turn {
+        return Err(Refusal::Line(Fault::Turn, d.line));
     }
+    Ok(d)
 }
 
-// The lowest wanted layer of a net, 0 where it has no line `low`, and the place of the next line.
-#[derive(Clone, Copy)]
-pub enum LowRead {
-    Low(u32, Cursor),
-    Refused(Refusal),
-}
-
-// The line `low` of a net in a job of k layers, where it stands.
-fn low_line(s: &[u8], c: Cursor, k: usize) -> LowRead
+// The line `low` of a net in a job of k layers, where it stands: its lowest wanted layer, 0 where it has no such line, and the place of the next line.
+fn low_line(s: &[u8], c: Cursor, k: usize) -> Result<(u32, Cursor), Refusal>
     requires { (c.at ≤ length s.now) × (c.line < 1048576) × (k ≤ 8) }
     ensures result_value { low_told s.now result ≡ low_line k (place_of s.now c) }
     ensures low_holds { low_holds (length s.now) c.line result }
 {
-    let o = lines::open_line(s, c, b"low=");
-    if !o.there {
-        return LowRead::Low(0, c);
+    if lines::open_line(s, c, b"low=").is_none() {
+        return Ok((0, c));
     }
-    match lines::ranged(s, c, b"low=", 1, k) {
-        Field::Refused(r) => LowRead::Refused(r),
-        Field::Value(n, d) => LowRead::Low(n as u32, d),
-    }
+    let (n, d) = lines::ranged(s, c, b"low=", 1, k)?;
+    Ok((n as u32, d))
 }
 
 // The `pins` line, its pins marked by tile.
-fn net_pins(s: &[u8], c: Cursor, w: &mut [u32], g: Shape, stamp: u32) -> PinsRead
-    requires shaped { Shaped g }
+fn net_pins(
+    s: &[u8],
+    c: Cursor,
+    w: &mut [u32],
+    g: Shape,
+    stamp: u32,
+) -> Result<(Pins, Cursor), Refusal>
     requires g_in_bounds { (chosen_at g ≤ length w.old) × (stamp ≤ most_stamp) × (length s.now ≤ 1048576) × (c.at ≤ length s.now) × (c.line < 1048576) }
     requires older { Older stamp (tiles_of g w.old) }
     ensures result_after { pins_told s.now (tiles_of g w.new) result ≡ mapped (pins_marked stamp (tiles_of g w.old)) (pins_line (sizes_of g) (place_of s.now c)) }
@@ -106,7 +82,7 @@ fn put_low(table: &mut [u32], i: usize, low: u32)
     requires { (i < most_nets) × (table_size ≤ length table.old) }
     ensures { table.new ≡ set table.old (vias_column i) low }
 {
-    table[layout::vias_column(i)] = low;
+    table[Column::Vias.at(i)] = low;
 }
 
 // What the `pins` and `edges` lines of a net say in its row: above 16 bits of its entries stand those that it drops.
@@ -117,16 +93,15 @@ fn put_row(table: &mut [u32], row: Row, pins: Pins, edges: Edges, dropped: usize
     ensures { table.new ≡ row_put table.old row.i pins.from edges.from pins.tiles row.first (edges.entries + 65536 * dropped) }
 {
     let i = row.i;
-    table[layout::pins_column(i)] = pins.from as u32;
-    table[layout::edges_column(i)] = edges.from as u32;
-    table[layout::tiles_column(i)] = pins.tiles as u32;
-    table[layout::first_column(i)] = row.first as u32;
-    table[layout::count_column(i)] = (edges.entries + 65536 * dropped) as u32;
+    table[Column::Pins.at(i)] = pins.from as u32;
+    table[Column::Edges.at(i)] = edges.from as u32;
+    table[Column::Tiles.at(i)] = pins.tiles as u32;
+    table[Column::First.at(i)] = row.first as u32;
+    table[Column::Count.at(i)] = (edges.entries + 65536 * dropped) as u32;
 }
 
 // Cuts the rings of a net whose two lines are read, under a stamp of their own. How many of its entries it drops.
 fn cut_rings(s: &[u8], w: &mut [u32], g: Shape, stamp: u32, p: Pins, e: Edges) -> usize
-    requires shaped { Shaped g }
     requires g_in_bounds { (chosen_at g ≤ length w.old) × (stamp ≤ most_stamp) × Older stamp (tiles_of g w.old) × Older stamp (links_of g w.old) }
     requires lines_counted { LinesCounted s.now g p.from e.from e.ring w.old }
     ensures cut_done { (n : Net) → LinesAt s.now g p.from e.from e.ring n → CutDone g stamp n w.old w.new result }
@@ -139,8 +114,14 @@ fn cut_rings(s: &[u8], w: &mut [u32], g: Shape, stamp: u32, p: Pins, e: Edges) -
 }
 
 // The `pins` and `edges` lines of a net, behind its other ones, whose row has its lowest wanted layer already. The rings of its entries are cut.
-fn net_body(s: &[u8], c: Cursor, w: &mut [u32], g: Shape, table: &mut [u32], row: Row) -> NetRead
-    requires shaped { Shaped g }
+fn net_body(
+    s: &[u8],
+    c: Cursor,
+    w: &mut [u32],
+    g: Shape,
+    table: &mut [u32],
+    row: Row,
+) -> Result<(Cursor, usize), Refusal>
     requires at_in_bounds { (c.at ≤ length s.now) × (c.line < 100000) × (length s.now ≤ 1048576) }
     requires table_size_in_bounds { (table_size ≤ length table.old) × (row.first ≤ most_entries) }
     requires net_ready { NetReady g row.i w.old }
@@ -148,53 +129,53 @@ fn net_body(s: &[u8], c: Cursor, w: &mut [u32], g: Shape, table: &mut [u32], row
     ensures w_len_unchanged { (length w.new ≡ length w.old) × (length table.new ≡ length table.old) }
 {
     let stamp = (2 * row.i + 1) as u32;
-    match net_pins(s, c, w, g, stamp) {
-        PinsRead::Refused(r) => NetRead::Refused(r),
-        PinsRead::Line(p, d) => match edges::edges_line(s, d, w, g, stamp, p.tiles) {
-            EdgesRead::Refused(r) => NetRead::Refused(r),
-            EdgesRead::Line(e, f) => {
-                let dropped = cut_rings(s, w, g, stamp + 1, p, e);
-                put_row(table, row, p, e, dropped);
-                NetRead::Net(f, e.entries)
-            }
-        },
-    }
+    let (p, d) = net_pins(s, c, w, g, stamp)?;
+    let (e, f) = edges::edges_line(s, d, w, g, stamp, p.tiles)?;
+    let dropped = cut_rings(s, w, g, stamp + 1, p, e);
+    put_row(table, row, p, e, dropped);
+    Ok((f, e.entries))
 }
 
 // The lines of a net behind its `net` line.
-fn net_rest(s: &[u8], c: Cursor, w: &mut [u32], g: Shape, table: &mut [u32], row: Row) -> NetRead
-    requires shaped { Shaped g }
+fn net_rest(
+    s: &[u8],
+    c: Cursor,
+    w: &mut [u32],
+    g: Shape,
+    table: &mut [u32],
+    row: Row,
+) -> Result<(Cursor, usize), Refusal>
     requires at_in_bounds { (c.at ≤ length s.now) × (c.line < 95000) × (length s.now ≤ 1048576) }
     requires table_size_in_bounds { (table_size ≤ length table.old) × (row.first ≤ most_entries) }
     requires net_ready { NetReady g row.i w.old }
     ensures net_told { NetTold s.now g row.i row.first (λ n. c.line + 2 + option_lines n.low) w.old w.new table.old table.new (rest_in (sizes_of g) (place_of s.now c)) result }
     ensures w_len_unchanged { (length w.new ≡ length w.old) × (length table.new ≡ length table.old) }
 {
-    match low_line(s, c, g.k) {
-        LowRead::Refused(r) => NetRead::Refused(r),
-        LowRead::Low(low, d) => {
-            put_low(table, row.i, low);
-            net_body(s, d, w, g, table, row)
-        }
-    }
+    let (low, d) = low_line(s, c, g.k)?;
+    put_low(table, row.i, low);
+    net_body(s, d, w, g, table, row)
 }
 
-// The lines of a net.
-fn read_net(s: &[u8], c: Cursor, w: &mut [u32], g: Shape, table: &mut [u32], row: Row) -> NetRead
-    requires shaped { Shaped g }
+// The lines of a net: the place after them, and the entries of its `edges` line.
+fn read_net(
+    s: &[u8],
+    c: Cursor,
+    w: &mut [u32],
+    g: Shape,
+    table: &mut [u32],
+    row: Row,
+) -> Result<(Cursor, usize), Refusal>
     requires at_in_bounds { (c.at ≤ length s.now) × (c.line < 90000) × (length s.now ≤ 1048576) }
     requires table_size_in_bounds { (table_size ≤ length table.old) × (row.first ≤ most_entries) }
     requires net_ready { NetReady g row.i w.old }
     ensures net_told { NetTold s.now g row.i row.first (λ n. c.line + 3 + option_lines n.low) w.old w.new table.old table.new (net_lines (sizes_of g) (row.i + 1) (place_of s.now c)) result }
     ensures w_len_unchanged { (length w.new ≡ length w.old) × (length table.new ≡ length table.old) }
 {
-    match net_line(s, c, row.i + 1) {
-        Listed::Refused(r) => NetRead::Refused(r),
-        Listed::Next(d) => net_rest(s, d, w, g, table, row),
-    }
+    let d = net_line(s, c, row.i + 1)?;
+    net_rest(s, d, w, g, table, row)
 }
 
-// The lines of all n nets.
+// The lines of all n nets: the place after them, and the entries of all `edges` lines.
 pub fn read_nets(
     s: &[u8],
     from: Cursor,
@@ -202,8 +183,7 @@ pub fn read_nets(
     g: Shape,
     table: &mut [u32],
     n: usize,
-) -> NetsRead
-    requires shaped { Shaped g }
+) -> Result<(Cursor, usize), Refusal>
     requires at_in_bounds { (from.at ≤ length s.now) × (from.line < 1000) × (length s.now ≤ 1048576) × (n ≤ most_nets) }
     requires nets_ready { NetsReady g w.old table.old }
     ensures nets_told { NetsTold s.now g n from.line w.old w.new table.new (nets (sizes_of g) 1 n (place_of s.now from)) result }
@@ -211,19 +191,11 @@ pub fn read_nets(
 {
     let mut c = from;
     let mut entries = 0;
-    let mut i = 0;
-    while i < n {
+    for i in 0..n {
         let row = Row { i, first: entries };
-        match read_net(s, c, w, g, table, row) {
-            NetRead::Refused(r) => {
-                return NetsRead::Refused(r);
-            }
-            NetRead::Net(d, count) => {
-                c = d;
-                entries += count;
-            }
-        }
-        i += 1;
+        let (d, count) = read_net(s, c, w, g, table, row)?;
+        c = d;
+        entries += count;
     }
-    NetsRead::Nets(c, entries)
+    Ok((c, entries))
 }

@@ -8,9 +8,10 @@ use native.Mathlib.Omega.{arith}
 use lib.ListN.{length, get_or}
 use Rattle.cut.specs.Again.{ring_told}
 use Rattle.cut.specs.Net.{RingAt}
-use Rattle.layout.specs.Shapes.{Shaped, most_tiles}
+use Rattle.layout.specs.Bounds.{most_tiles}
+use Rattle.layout.specs.Shapes.{Shaped}
 use Rattle.layout.specs.Table.{pins_column, edges_column, tiles_column, count_column, entries_in, dropped_in}
-use Rattle.layout.specs.declared.Shape.{Shape}
+use Rattle.layout.specs.declared.shape.Shape.{Shape}
 use Rattle.marks.specs.Words.{most_stamp}
 use Rattle.model.specs.Job.{Net, Job, net_count, net_of}
 use Rattle.model.specs.Read.{Lent}

@@ -9,7 +9,7 @@ use native.Mathlib.Omega.{arith}
 use lib.ListN.{length, get_or, set, length-set}
 use lib.Seq.{get_or-set_same, get_or-set_other}
 use Rattle.layout.specs.Table.{tiles_column, vias_column, table_size, low_in, score_in, score_put}
-use Rattle.layout.specs.declared.Shape.{Shape}
+use Rattle.layout.specs.declared.shape.Shape.{Shape}
 use Rattle.model.specs.Job.{Job, net_count, net_of}
 use Rattle.model.specs.Limits.{most_nets}
 use Rattle.model.specs.Read.{Lent}

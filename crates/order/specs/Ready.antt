@@ -5,7 +5,7 @@ use Rattle.std.proofs.Common.{inr, ap, ◌∙◌, arith}
 use Rattle.layout.specs.Areas.{demand_at, flat_at, tiles_at, links_at}
 use Rattle.layout.specs.Parts.{part-outside, Outside}
 use Rattle.layout.specs.Table.{tiles_column, score_in}
-use Rattle.layout.specs.declared.Shape.{Shape}
+use Rattle.layout.specs.declared.shape.Shape.{Shape}
 use Rattle.model.specs.Job.{Job, net_count, net_of}
 use Rattle.model.specs.Read.{Lent}
 use Rattle.model.specs.Score.{different_tiles, score}
@@ -59,9 +59,9 @@ pub ready-checked : (s : List ℕ) (g : Shape) (a : Weights) (w w' table : List 
     → Outside (flat_at g) g.e w w' → FlatCapacities g j w' → a.alpha ≡ j.alpha → a.beta ≡ j.beta → a.gamma ≡ j.gamma → a.stamp ≡ suc (2 * net_count j) → Ready s g a w' table lent j
 ready-checked s g a w w' table lent j acc checked out flat alpha-is beta-is gamma-is stamp-is = record {
   accepted = acc;
-  width = ap (λ (h : Shape). h.w) checked.shape;
-  height = ap (λ (h : Shape). h.h) checked.shape;
-  layers = ap (λ (h : Shape). h.k) checked.shape;
+  width = checked.shape.width;
+  height = checked.shape.height;
+  layers = checked.shape.layers;
   alpha = alpha-is;
   beta = beta-is;
   gamma = gamma-is;

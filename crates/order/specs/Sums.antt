@@ -4,7 +4,7 @@ use Rattle.std.specs.Prelude.{Bool, true, false, cond, List, [], ◌∷◌, ◌+
 use Rattle.std.proofs.Common.{append-nil, ⊎_elim, sym, ap, subst, ◌∙◌, arith, length-append}
 use Rattle.cut.specs.Again.{KeptAt, keep-end}
 use Rattle.layout.specs.Areas.{demand_at, flat_at, tiles_of}
-use Rattle.layout.specs.declared.Shape.{Shape}
+use Rattle.layout.specs.declared.shape.Shape.{Shape}
 use Rattle.model.specs.Job.{Pin, Net, Job}
 use Rattle.model.specs.Lists.{sum, keep, has, In}
 use Rattle.model.specs.Overflow.{flat_demand, flat_capacity}

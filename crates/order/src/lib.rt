@@ -4,7 +4,6 @@
 ghost use Rattle.std.specs.Prelude.{true, List, [], ◌∷◌, ◌++◌, ◌≡◌, ℕ, suc, ◌+◌, ◌*◌, ◌^◌, ◌<◌, ◌≤◌, length, get_or};
 ghost use Rattle.cut.specs.Again.{KeptAt};
 ghost use Rattle.layout.specs.Areas.{tiles_at, chosen_at};
-ghost use Rattle.layout.specs.Shapes.{Shaped};
 ghost use Rattle.layout.specs.Table.{tiles_column, dropped_in};
 ghost use Rattle.model.specs.Job.{Net, Job, net_count, net_of};
 ghost use Rattle.model.specs.Read.{Lent, edge_inside};
@@ -19,8 +18,8 @@ ghost use Rattle.order.specs.Density.{Added, DensityOf, Weighed};
 ghost use Rattle.order.specs.Sums.{KeptSums};
 ghost use Rattle.order.specs.Ready.{Ready, SomeJob, SomeNet, Scored};
 
-use known::Known;
-use layout::Shape;
+use layout::{Column, Shape};
+use text::Entry;
 
 // alpha, beta and gamma of a job; and the stamp under which its first net is marked where its rings are cut again, after which each net has one of its own.
 #[derive(Clone, Copy)]
@@ -64,20 +63,13 @@ fn score(a: Weights, edges: u64, pins: u64, x: Density) -> u64
 
 // ---- D and C
 
-fn wide(x: u32) -> u64
-    ensures { (result ≡ x) × (result < 2 ^ 32) }
-{
-    x as u64
-}
-
 // d(e) and c(e) of one edge more.
 fn add_edge(w: &[u32], g: Shape, v: Density, edge: usize) -> Density
-    requires shaped { Shaped g }
     requires g_in_bounds { (tiles_at g ≤ length w.now) × (edge < g.e) × (v.demand ≤ 2 ^ 60) × (v.capacity ≤ 2 ^ 60) }
     ensures { Added g w.now edge v result }
 {
-    let demand = wide(w[layout::demand_at(g) + edge]);
-    let capacity = wide(w[layout::flat_at(g) + edge]);
+    let demand = u64::from(w[layout::demand_at(g) + edge]);
+    let capacity = u64::from(w[layout::flat_at(g) + edge]);
     Density {
         demand: v.demand + demand,
         capacity: v.capacity + capacity,
@@ -86,7 +78,6 @@ fn add_edge(w: &[u32], g: Shape, v: Density, edge: usize) -> Density
 
 // d(e) and c(e) of the edge that an entry inside the grid names.
 fn add_entry(w: &[u32], g: Shape, v: Density, x: usize, y: usize, d: usize) -> Density
-    requires shaped { Shaped g }
     requires g_in_bounds { (tiles_at g ≤ length w.now) × (v.demand ≤ 2 ^ 60) × (v.capacity ≤ 2 ^ 60) × (d ≤ 1) × (edge_inside g.w g.h (triple x y d) ≡ true) }
     ensures { Added g w.now (edge_of g (triple x y d)) v result }
 {
@@ -96,29 +87,22 @@ fn add_entry(w: &[u32], g: Shape, v: Density, x: usize, y: usize, d: usize) -> D
 
 // D and C over the entries that stand at `at`, one or more.
 fn entries_density(s: &[u8], at: usize, w: &[u32], g: Shape) -> Density
-    requires shaped { Shaped g }
     requires g_in_bounds { tiles_at g ≤ length w.now }
     requires edges_there { EdgesThere s.now g at × (get_or s.now at 0 ≡ 10 → ⊥) }
     ensures { (j : Job) (n : Net) → EdgesAt s.now g.w g.h at n → FlatDemands g j w.now → FlatCapacities g j w.now → DensityOf j n.entries result }
 {
-    let mut i = at;
     let mut v = Density {
         demand: 0,
         capacity: 0,
     };
-    loop {
-        let e = known::edge_at(s, i);
+    for e in known::edges_from(s, at) {
         v = add_entry(w, g, v, e.x, e.y, e.third);
-        if e.last {
-            return v;
-        }
-        i = e.next;
     }
+    v
 }
 
 // D and C over the entries of the line at `at`, which may be empty.
 fn net_density(s: &[u8], at: usize, w: &[u32], g: Shape) -> Density
-    requires shaped { Shaped g }
     requires g_in_bounds { tiles_at g ≤ length w.now }
     requires edges_there { EdgesThere s.now g at }
     ensures { (j : Job) (n : Net) → EdgesAt s.now g.w g.h at n → FlatDemands g j w.now → FlatCapacities g j w.now → DensityOf j n.entries result }
@@ -134,7 +118,6 @@ fn net_density(s: &[u8], at: usize, w: &[u32], g: Shape) -> Density
 
 // D and C of a net that keeps all entries of the line at `at`, as the score needs them: where gamma is 0 they weigh nothing and are not summed.
 fn weighed_density(s: &[u8], at: usize, w: &[u32], g: Shape, gamma: u64) -> Density
-    requires shaped { Shaped g }
     requires g_in_bounds { tiles_at g ≤ length w.now }
     requires edges_there { EdgesThere s.now g at }
     ensures { (j : Job) (n : Net) → EdgesAt s.now g.w g.h at n → n.edges ≡ n.entries → FlatDemands g j w.now → FlatCapacities g j w.now → Weighed gamma j n result }
@@ -151,8 +134,7 @@ fn weighed_density(s: &[u8], at: usize, w: &[u32], g: Shape, gamma: u64) -> Dens
 // ---- the same of a net that has dropped entries: they are none of its edges
 
 // d(e) and c(e) of the edge of an entry inside the grid, if it is marked under the stamp.
-fn add_kept(w: &[u32], g: Shape, stamp: u32, v: Density, e: Known) -> Density
-    requires shaped { Shaped g }
+fn add_kept(w: &[u32], g: Shape, stamp: u32, v: Density, e: Entry) -> Density
     requires g_in_bounds { (chosen_at g ≤ length w.now) × (v.demand ≤ 2 ^ 60) × (v.capacity ≤ 2 ^ 60) × (e.third ≤ 1) × (edge_inside g.w g.h (triple e.x e.y e.third) ≡ true) }
     ensures { (xs : List ℕ) → KeptSums g stamp w.now xs v → KeptSums g stamp w.now (xs ++ (edge_of g (triple e.x e.y e.third) ∷ [])) result }
 {
@@ -164,29 +146,22 @@ fn add_kept(w: &[u32], g: Shape, stamp: u32, v: Density, e: Known) -> Density
 
 // D and C over those of the entries that stand at `at`, one or more, whose edges are marked under the stamp.
 fn kept_density(s: &[u8], at: usize, w: &[u32], g: Shape, stamp: u32) -> Density
-    requires shaped { Shaped g }
     requires g_in_bounds { chosen_at g ≤ length w.now }
     requires edges_there { EdgesThere s.now g at × (get_or s.now at 0 ≡ 10 → ⊥) }
     ensures { (j : Job) (n : Net) → KeptAt s.now g at stamp w.now n → FlatDemands g j w.now → FlatCapacities g j w.now → DensityOf j n.edges result }
 {
-    let mut i = at;
     let mut v = Density {
         demand: 0,
         capacity: 0,
     };
-    loop {
-        let e = known::edge_at(s, i);
+    for e in known::edges_from(s, at) {
         v = add_kept(w, g, stamp, v, e);
-        if e.last {
-            return v;
-        }
-        i = e.next;
     }
+    v
 }
 
 // D and C of net i, counted from 0, as the score needs them: its edges are marked again.
 fn cut_density(s: &[u8], w: &mut [u32], g: Shape, a: Weights, table: &[u32], i: usize) -> Density
-    requires shaped { Shaped g }
     requires g_in_bounds { (chosen_at g ≤ length w.old) × Unmarked g (a.stamp + i) w.old }
     requires some_net { SomeNet s.now g a w.old table.now i × (0 < dropped_in table.now i) }
     ensures weighed { (lent : Lent) (j : Job) → Ready s.now g a w.old table.now lent j → i < net_count j → Weighed a.gamma j (net_of j (suc i)) result }
@@ -198,8 +173,8 @@ fn cut_density(s: &[u8], w: &mut [u32], g: Shape, a: Weights, table: &[u32], i: 
             capacity: 0,
         };
     }
-    let pins = layout::index(table[layout::pins_column(i)]);
-    let edges = layout::index(table[layout::edges_column(i)]);
+    let pins = table[Column::Pins.at(i)] as usize;
+    let edges = table[Column::Edges.at(i)] as usize;
     let stamp = a.stamp + i as u32;
     cut::mark_net(s, pins, edges, w, g, stamp);
     kept_density(s, edges, w, g, stamp)
@@ -209,17 +184,16 @@ fn cut_density(s: &[u8], w: &mut [u32], g: Shape, a: Weights, table: &[u32], i: 
 
 // The score of net i, counted from 0.
 fn net_score(s: &[u8], w: &mut [u32], g: Shape, a: Weights, table: &[u32], i: usize) -> u64
-    requires shaped { Shaped g }
     requires g_in_bounds { (chosen_at g ≤ length w.old) × Unmarked g (a.stamp + i) w.old }
     requires some_net { SomeNet s.now g a w.old table.now i }
     ensures value { (lent : Lent) (j : Job) → Ready s.now g a w.old table.now lent j → i < net_count j → get_or table.now (tiles_column i) 0 ≡ scores.different_tiles (net_of j (suc i)).pins → result ≡ scores.score j (net_of j (suc i)) }
     ensures upper_bound { result < 2 ^ 60 }
     ensures remarked { Remarked g (a.stamp + (i + 1)) w.old w.new }
 {
-    let at = layout::index(table[layout::edges_column(i)]);
+    let at = table[Column::Edges.at(i)] as usize;
     let dropped = layout::dropped_in(table, i);
     let edges = (layout::entries_in(table, i) - dropped) as u64;
-    let pins = wide(table[layout::tiles_column(i)]);
+    let pins = u64::from(table[Column::Tiles.at(i)]);
     if dropped != 0 {
         let x = cut_density(s, w, g, a, table, i);
         return score(a, edges, pins, x);
@@ -230,7 +204,6 @@ fn net_score(s: &[u8], w: &mut [u32], g: Shape, a: Weights, table: &[u32], i: us
 
 // The scores of the n nets, each in the net's row of the table.
 pub fn score_nets(s: &[u8], w: &mut [u32], g: Shape, a: Weights, table: &mut [u32], n: usize)
-    requires shaped { Shaped g }
     requires g_in_bounds { (chosen_at g ≤ length w.old) × Unmarked g (suc (2 * n)) w.old }
     requires some_job { SomeJob s.now g a w.old table.old n }
     ensures scored { (lent : Lent) (j : Job) → Ready s.now g a w.old table.old lent j → PinTiles j table.old → Marks j table.old → n ≡ net_count j → Scored s.now j table.new }

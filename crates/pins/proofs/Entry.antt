@@ -8,18 +8,14 @@ use native.Mathlib.Nat.{add-zero}
 use native.Mathlib.Omega.{arith}
 use lib.Dec.{eqb}
 use lib.ListN.{length}
-use Rattle.layout.specs.declared.Shape.{Shape}
+use Rattle.layout.specs.declared.shape.Shape.{Shape}
 use Rattle.marks.specs.Marks.{bits_at, marked, put_of, mark, marks_after, mark-long}
 use Rattle.marks.specs.declared.Put.{Put}
 use Rattle.marks.specs.declared.Put.TheVariants.{Twice, Fresh, Known}
 use Rattle.model.specs.Lists.{bit}
 use Rattle.model.specs.Read.{Triple, pin_inside, pin_at}
 use Rattle.scan.specs.Pins.{triple}
-use Rattle.text.specs.declared.Cursor.{Cursor}
-use Rattle.text.specs.declared.Fault.TheVariants.{Range, PinTwice}
-use Rattle.text.specs.declared.Refusal.TheVariants.{Line as OnLine}
-use Rattle.pins.specs.Pins.{marked_seen, seen_after, work_after, verdict_of}
-use Rattle.pins.specs.declared.PinsRead.TheVariants.{Line, Refused}
+use Rattle.pins.specs.Pins.{marked_seen, seen_after, work_after}
 use Rattle.pins.specs.declared.Seen.{Seen}
 
 -- ---- what marking found
@@ -109,18 +105,3 @@ seen-counts g n a v t = go (pin_inside g.w g.h g.k t) (marked n a (pin_at g.w t)
     go true false true = omega arith
     go true false false = omega arith
     go false q z = omega arith
-
--- ---- the verdict
-
-module _ (v : Seen) (from : ℕ) (c : Cursor) where
-  pub verdict-range : v.inside ≡ false → Refused (OnLine Range c.line) ≡ verdict_of v from c
-  unfolding verdict_of
-  verdict-range e = rw e
-
-  pub verdict-twice : v.inside ≡ true → v.twice ≡ true → Refused (OnLine PinTwice c.line) ≡ verdict_of v from c
-  unfolding verdict_of
-  verdict-twice e h = rw (e, h)
-
-  pub verdict-fine : v.inside ≡ true → v.twice ≡ false → Line (record { from = from; tiles = v.tiles }) c ≡ verdict_of v from c
-  unfolding verdict_of
-  verdict-fine e h = rw (e, h)

@@ -7,7 +7,8 @@ use mathlib.Core.Path.{◌≡◌, refl, sym, ap, ◌∙◌}
 use Prim.Native.Nat.{ℕ, suc, ◌+◌, ◌≤◌}
 use native.Mathlib.Omega.{arith}
 use lib.ListN.{length, drop}
-use Rattle.layout.specs.declared.Shape.{Shape}
+use Rattle.std.specs.Prelude.{Some, Ok, Err, Result as Outcome}
+use Rattle.layout.specs.declared.shape.Shape.{Shape}
 use Rattle.layout.specs.Shapes.{sizes_of, Shaped, tile-below}
 use Rattle.marks.specs.Marks.{Older}
 use Rattle.model.specs.Job.{Pin}
@@ -20,13 +21,12 @@ use Rattle.scan.specs.Lines.{Lined}
 use Rattle.scan.specs.Pins.{pins_of}
 use Rattle.text.specs.Refusals.{place_of}
 use Rattle.text.specs.declared.Cursor.{Cursor}
-use Rattle.lines.specs.Opens.{key-there, key-other}
-use Rattle.lines.specs.Reads.{opened_of}
-use Rattle.lines.specs.Told.{mapped}
-use Rattle.lines.specs.declared.Opened.{Opened}
+use Rattle.text.specs.declared.Refusal.{Refusal}
+use Rattle.lines.specs.Opens.{place-is, key-there, key-other, expected-there, expected-other}
+use Rattle.lines.specs.Reads.{opened_of, expected_of}
+use Rattle.lines.specs.Told.{mapped, refused_by}
 use Rattle.pins.specs.Laws.{AllInside, first-twice}
-use Rattle.pins.specs.Pins.{Marked, mark_pins, marked_twice, new_tiles, pins_marked, pins_in, start, finish}
-use Rattle.pins.specs.declared.PinsRead.{PinsRead}
+use Rattle.pins.specs.Pins.{PinsRead, Marked, mark_pins, marked_twice, new_tiles, pins_marked, pins_in, start, finish}
 
 module _ (g : Shape) (shaped : Shaped g) (n : ℕ) (a : List ℕ) (older : Older n a) (room : g.t ≤ length a) where
   -- the first of those that pass, and the others
@@ -72,18 +72,24 @@ module _ (g : Shape) (shaped : Shaped g) (n : ℕ) (a : List ℕ) (older : Older
       go true e = rw (first-twice n a older pins (all-inside c.0 e)) (end (twice same_pin pins))
 
   -- the line that was opened at c
-  module _ (s : List ℕ) (c : Cursor) (o : Opened) (e : o ≡ opened_of s c (bytes "pins=")) where
+  module _ (s : List ℕ) (c : Cursor) (o : Outcome Cursor Refusal) (e : o ≡ expected_of s c (bytes "pins=")) where
     reads : pins_line (sizes_of g) (place_of s c) ≡ on_key g.w g.h g.k (suc c.line) (behind (bytes "pins=") (drop c.at s))
     reads = pins-law (sizes_of g) c.line (drop c.at s)
 
-    pub line_other : o.there ≡ false → refused 2 o.place.line ≡ mapped (pins_marked n a) (pins_line (sizes_of g) (place_of s c))
-    line_other t = sym (ap (mapped (pins_marked n a)) (reads ∙ key-other s c (bytes "pins=") o e (on_key g.w g.h g.k) t))
+    pub line_other : (x : Refusal) → o ≡ Err x → refused_by x ≡ mapped (pins_marked n a) (pins_line (sizes_of g) (place_of s c))
+    line_other x h =
+        let p = expected-other s c (bytes "pins=") x (sym e ∙ h) in
+        rw p.1 (sym (ap (mapped (pins_marked n a)) (reads ∙ key-other s c (bytes "pins=") p.0 (on_key g.w g.h g.k))))
 
-    pub line-there : o.there ≡ true → finish g n o.place.line start a (pins_of (drop o.place.at s)) ≡ mapped (pins_marked n a) (pins_line (sizes_of g) (place_of s c))
-    line-there t =
-        finish-law o.place.line (pins_of (drop o.place.at s))
-        ∙ sym (ap (mapped (pins_marked n a)) (reads ∙ key-there s c (bytes "pins=") o e (on_key g.w g.h g.k) t))
+    module _ (d : Cursor) (h : o ≡ Ok d) where
+      there : opened_of s c (bytes "pins=") ≡ Some d
+      there = expected-there s c (bytes "pins=") d (sym e ∙ h)
 
-    -- where its entries and the next line stand
-    pub line-in : (size : ℕ) (r : PinsRead) → pins_in size o.place.at o.place.line r → pins_in size (c.at + 5) (c.line + 1) r
-    line-in size r h = rw e at h
+      pub line-there : finish g n d.line start a (pins_of (drop d.at s)) ≡ mapped (pins_marked n a) (pins_line (sizes_of g) (place_of s c))
+      line-there =
+          finish-law d.line (pins_of (drop d.at s))
+          ∙ sym (ap (mapped (pins_marked n a)) (reads ∙ key-there s c (bytes "pins=") d there (on_key g.w g.h g.k)))
+
+      -- where its entries and the next line stand
+      pub line-in : (size : ℕ) (r : PinsRead) → pins_in size d.at d.line r → pins_in size (c.at + 5) (c.line + 1) r
+      line-in size r k = rw (place-is s c (bytes "pins=") d there) at k

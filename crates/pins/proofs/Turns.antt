@@ -8,21 +8,20 @@ use Prim.Native.Nat.{ℕ, ◌+◌, ◌-◌, ◌≤◌, ◌<◌}
 use native.Mathlib.Omega.{arith}
 use lib.Dec.{eqb}
 use lib.ListN.{length, drop}
-use Rattle.layout.specs.declared.Shape.{Shape}
+use Rattle.std.specs.Prelude.{Some, None, Ok, Err}
+use Rattle.layout.specs.declared.shape.Shape.{Shape}
 use Rattle.marks.specs.Marks.{bits_at, marked, mark, marks_after}
 use Rattle.model.specs.Job.{Pin}
 use Rattle.model.specs.Lists.{all, bit}
 use Rattle.model.specs.Read.{Result, refused, found, Triple, pin_inside, pin_at}
 use Rattle.scan.specs.Lines.{Lined, cons_to}
-use Rattle.scan.specs.Pins.{triple, pins_of, pin-is}
+use Rattle.scan.specs.Pins.{triple, pins_of, pin-is, pin_told}
 use Rattle.text.specs.Entries.{pin_entry_at}
-use Rattle.text.specs.declared.Entry.TheVariants.{More, Last, Bad}
+use Rattle.text.specs.declared.Entry.{Entry}
 use Rattle.text.specs.declared.Cursor.{Cursor}
 use Rattle.text.specs.declared.Fault.TheVariants.{Range, PinTwice}
-use Rattle.text.specs.declared.Refusal.TheVariants.{Line as OnLine}
-use Rattle.pins.specs.Pins.{mark_pin, mark_pins, marked_twice, new_tiles, Marked, marked_seen, seen_after, work_after, verdict_of, pins_in, pins_told, finish}
-use Rattle.pins.specs.declared.PinsRead.{PinsRead}
-use Rattle.pins.specs.declared.PinsRead.TheVariants.{Line, Refused}
+use Rattle.text.specs.declared.Refusal.TheVariants.{Line}
+use Rattle.pins.specs.Pins.{PinsRead, mark_pin, mark_pins, marked_twice, new_tiles, Marked, marked_seen, seen_after, work_after, verdict_of, pins_in, pins_told, finish}
 use Rattle.pins.specs.declared.Seen.{Seen}
 
 -- a fine line
@@ -90,7 +89,7 @@ finish-end g n v a s from c = go v.inside v.twice
 
     go : (p q : Bool)
         → tested l (p && true) (q || false) (fine l a (v.tiles + 0) (drop c.at s))
-        ≡ pins_told s a (cond p (cond q (Refused (OnLine PinTwice l)) (Line (record { from = from; tiles = v.tiles }) c)) (Refused (OnLine Range l)))
+        ≡ pins_told s a (cond p (cond q (Err (Line PinTwice l)) (Ok (record { from = from; tiles = v.tiles }, c))) (Err (Line Range l)))
     go true true = refl
     go true false = zeros
     go false q = refl
@@ -98,34 +97,39 @@ finish-end g n v a s from c = go v.inside v.twice
 -- ---- by what stands at the place
 
 module _ (g : Shape) (n l : ℕ) (s : List ℕ) (i : ℕ) (v : Seen) (a : List ℕ) where
-  pub turn-bad : Bad ≡ pin_entry_at s i → finish g n l v a (pins_of (drop i s)) ≡ refused 2 l
-  turn-bad e = rw (pin-is s i Bad e)
+  pub turn-bad : None ≡ pin_entry_at s i → finish g n l v a (pins_of (drop i s)) ≡ refused 2 l
+  turn-bad e = rw (pin-is s i None e)
 
-  module _ (x y z next : ℕ) (v' : Seen) (a' : List ℕ) (p : v' ≡ seen_after g n a v (triple x y z)) (q : a' ≡ work_after g n a (triple x y z)) where
-    pub turn_more : More x y z next ≡ pin_entry_at s i → finish g n l v a (pins_of (drop i s)) ≡ finish g n l v' a' (pins_of (drop next s))
+  module _ (k : Entry) (is : Some k ≡ pin_entry_at s i)
+      (v' : Seen) (a' : List ℕ) (p : v' ≡ seen_after g n a v (triple k.x k.y k.third)) (q : a' ≡ work_after g n a (triple k.x k.y k.third)) where
+    abbrev here : Triple
+    here = triple k.x k.y k.third
+
+    pub turn_more : k.last ≡ false → finish g n l v a (pins_of (drop i s)) ≡ finish g n l v' a' (pins_of (drop k.next s))
     turn_more e =
-        rw (pin-is s i (More x y z next) e).0
-        (finish-step g n l v a (triple x y z) (pins_of (drop next s)) ∙ sym (λ j. finish g n l (p j) (q j) (pins_of (drop next s))))
+        rw (pin_told s i k is false e).0
+        (finish-step g n l v a here (pins_of (drop k.next s)) ∙ sym (λ j. finish g n l (p j) (q j) (pins_of (drop k.next s))))
 
-    pub turn_last : (from : ℕ) (r : PinsRead) → r ≡ verdict_of v' from (record { at = next; line = l }) → Last x y z next ≡ pin_entry_at s i → finish g n l v a (pins_of (drop i s)) ≡ pins_told s a' r
-    turn_last from r h e =
-        rw (pin-is s i (Last x y z next) e).0
-        (finish-some g n l v a (triple x y z) ([], drop next s)
-        ∙ sym (λ j. finish g n l (p j) (q j) (some ([], drop next s)))
-        ∙ finish-end g n v' a' s from (record { at = next; line = l })
+    pub turn_last : k.last ≡ true → (from : ℕ) (r : PinsRead) → r ≡ verdict_of v' from (record { at = k.next; line = l }) → finish g n l v a (pins_of (drop i s)) ≡ pins_told s a' r
+    turn_last e from r h =
+        rw (pin_told s i k is true e).0
+        (finish-some g n l v a here ([], drop k.next s)
+        ∙ sym (λ j. finish g n l (p j) (q j) (some ([], drop k.next s)))
+        ∙ finish-end g n v' a' s from (record { at = k.next; line = l })
         ∙ ap (pins_told s a') (sym h))
 
-pub turn-place : (s : List ℕ) (i x y z next : ℕ) → More x y z next ≡ pin_entry_at s i → (i < next) × (next ≤ length s)
-turn-place s i x y z next e = ((pin-is s i (More x y z next) e).1, (pin-is s i (More x y z next) e).2)
+module _ (s : List ℕ) (i : ℕ) (k : Entry) (is : Some k ≡ pin_entry_at s i) where
+  pub turn-place : k.last ≡ false → (i < k.next) × (k.next ≤ length s)
+  turn-place e = let t = pin_told s i k is false e in (t.1, t.2)
 
--- the place after the line is in the text
-pub last-place : (s : List ℕ) (i x y z next : ℕ) → Last x y z next ≡ pin_entry_at s i → (v : Seen) (from l : ℕ) (r : PinsRead) → r ≡ verdict_of v from (record { at = next; line = l }) → pins_in (length s) from l r
-unfolding verdict_of
-last-place s i x y z next e v from l r h = rw h (go v.inside v.twice)
-  where
-    go : (p q : Bool)
-        → pins_in (length s) from l
-        (cond p (cond q (Refused (OnLine PinTwice l)) (Line (record { from = from; tiles = v.tiles }) (record { at = next; line = l }))) (Refused (OnLine Range l)))
-    go true true = tt
-    go true false = (refl, record { place = (pin-is s i (Last x y z next) e).1; lines = refl })
-    go false q = tt
+  -- the place after the line is in the text
+  pub last-place : k.last ≡ true → (v : Seen) (from l : ℕ) (r : PinsRead) → r ≡ verdict_of v from (record { at = k.next; line = l }) → pins_in (length s) from l r
+  unfolding verdict_of
+  last-place e v from l r h = rw h (go v.inside v.twice)
+    where
+      go : (p q : Bool)
+          → pins_in (length s) from l
+          (cond p (cond q (Err (Line PinTwice l)) (Ok (record { from = from; tiles = v.tiles }, record { at = k.next; line = l }))) (Err (Line Range l)))
+      go true true = tt
+      go true false = (refl, record { place = (pin_told s i k is true e).1; lines = refl })
+      go false q = tt

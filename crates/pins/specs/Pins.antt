@@ -1,8 +1,8 @@
 -- A `pins` line as the code reads it: judged and marked entry by entry.
 -- Assumes nothing.
-use Rattle.std.specs.Prelude.{Bool, true, false, ◌&&◌, ◌||◌, cond, List, [], ◌∷◌, map, ◌≡◌, ℕ, ◌+◌, ◌-◌, eqb}
+use Rattle.std.specs.Prelude.{Bool, true, false, ◌&&◌, ◌||◌, cond, List, [], ◌∷◌, map, ◌≡◌, ℕ, ◌+◌, ◌-◌, eqb, Ok, Err, Result as Outcome}
 use Rattle.std.proofs.Math.Option.{none, some}
-use Rattle.layout.specs.declared.Shape.{Shape}
+use Rattle.layout.specs.declared.shape.Shape.{Shape}
 use Rattle.marks.specs.Marks.{bits_at, marked, mark, marks_after}
 use Rattle.model.specs.Job.{Pin}
 use Rattle.model.specs.Lists.{all, bit}
@@ -12,10 +12,14 @@ use Rattle.lines.specs.Told.{After, refused_by}
 use Rattle.text.specs.Refusals.{place_of}
 use Rattle.text.specs.declared.Cursor.{Cursor}
 use Rattle.text.specs.declared.Fault.TheVariants.{Range, PinTwice}
-use Rattle.text.specs.declared.Refusal.TheVariants.{Line as OnLine}
-use Rattle.pins.specs.declared.PinsRead.{PinsRead}
-use Rattle.pins.specs.declared.PinsRead.TheVariants.{Line, Refused}
+use Rattle.text.specs.declared.Refusal.{Refusal}
+use Rattle.text.specs.declared.Refusal.TheVariants.{Line}
+use Rattle.pins.specs.declared.Pins.{Pins}
 use Rattle.pins.specs.declared.Seen.{Seen}
+
+-- a `pins` line that was read, and the place of the next line
+abbrev pub PinsRead : Type 0
+PinsRead = Outcome (Pins × Cursor) Refusal
 
 -- ---- the marks of a list of pins
 
@@ -70,20 +74,20 @@ work_after g n a t = cond (pin_inside g.w g.h g.k t) (marks_after n a (pin_at g.
 
 unfoldable pub verdict_of : Seen → ℕ → Cursor → PinsRead
 verdict_of v from c =
-    cond v.inside (cond v.twice (Refused (OnLine PinTwice c.line)) (Line (record { from = from; tiles = v.tiles }) c))
-    (Refused (OnLine Range c.line))
+    cond v.inside (cond v.twice (Err (Line PinTwice c.line)) (Ok (record { from = from; tiles = v.tiles }, c)))
+    (Err (Line Range c.line))
 
 -- ---- the line
 
 -- the entries of a fine line stand at `from`, and the place after it is in a text of this size
 abbrev pub pins_in : ℕ → ℕ → ℕ → PinsRead → Type 0
-pins_in size from line (Refused r) = Unit {0}
-pins_in size from line (Line p c) = (p.from ≡ from) × After size line c
+pins_in size from line (Err r) = Unit {0}
+pins_in size from line (Ok x) = (x.0.from ≡ from) × After size line x.1
 
 -- the answer in the definitions' words: a refusal, or what the line leaves and the next place
 abbrev pub pins_told : List ℕ → List ℕ → PinsRead → Result Marked
-pins_told s a (Refused r) = refused_by r
-pins_told s a (Line p c) = found (record { marks = a; tiles = p.tiles }) (place_of s c)
+pins_told s a (Err r) = refused_by r
+pins_told s a (Ok x) = found (record { marks = a; tiles = x.0.tiles }) (place_of s x.1)
 
 -- the entries from here on, after what was seen and marked so far
 abbrev pub finish : Shape → ℕ → ℕ → Seen → List ℕ → Lined → Result Marked

@@ -2,7 +2,7 @@
 #![tactic(auto)]
 
 ghost use Rattle.std.specs.Prelude.{◌≡◌, true, false, ℕ, ◌+◌, ◌-◌, ◌*◌, ◌<◌, ◌≤◌, length, drop};
-ghost use Rattle.layout.specs.Shapes.{sizes_of, Shaped};
+ghost use Rattle.layout.specs.Shapes.{sizes_of};
 ghost use Rattle.marks.specs.Marks.{marks_after, Older};
 ghost use Rattle.marks.specs.Words.{most_stamp};
 ghost use Rattle.model.specs.Read.{pin_inside, pins_line};
@@ -13,7 +13,7 @@ ghost use Rattle.pins.specs.Pins.{marked_seen, seen_after, work_after, verdict_o
 
 use layout::Shape;
 use marks::Put;
-use text::{Cursor, Fault, Item, Refusal};
+use text::{Cursor, Entry, Fault, Refusal};
 
 // What the entries of a line have shown so far: in how many tiles they are, all inside the grid, one of them twice.
 #[derive(Clone, Copy)]
@@ -30,27 +30,11 @@ pub struct Pins {
     pub tiles: usize,
 }
 
-// A `pins` line that was read, and the place of the next line.
-#[derive(Clone, Copy)]
-pub enum PinsRead {
-    Line(Pins, Cursor),
-    Refused(Refusal),
-}
-
 // "x is below W, y below H, l is 1 to K"
 fn inside(g: Shape, x: usize, y: usize, l: usize) -> bool
     ensures { result ≡ pin_inside g.w g.h g.k (triple x y l) }
 {
-    if g.w <= x {
-        return false;
-    }
-    if g.h <= y {
-        return false;
-    }
-    if l < 1 {
-        return false;
-    }
-    l <= g.k
+    x < g.w && y < g.h && 1 <= l && l <= g.k
 }
 
 // One more pin inside the grid, on layer l of the tile `here`.
@@ -60,58 +44,54 @@ fn mark_pin(a: &mut [u32], stamp: u32, here: usize, l: usize, v: Seen) -> Seen
     ensures a_after { a.new ≡ marks_after stamp a.old here (l - 1) }
 {
     match marks::set_mark(a, stamp, here, (l - 1) as u32) {
-        Put::Twice => Seen {
-            tiles: v.tiles,
-            inside: v.inside,
-            twice: true,
-        },
+        Put::Twice => Seen { twice: true, ..v },
         Put::Fresh => Seen {
             tiles: v.tiles + 1,
-            inside: v.inside,
-            twice: v.twice,
+            ..v
         },
         Put::Known => v,
     }
 }
 
 // One more entry.
-fn put_pin(a: &mut [u32], g: Shape, stamp: u32, v: Seen, e: Item) -> Seen
-    requires shaped { Shaped g }
+fn put_pin(a: &mut [u32], g: Shape, stamp: u32, v: Seen, e: Entry) -> Seen
     requires t_in_bounds { (g.t ≤ length a.old) × (stamp ≤ most_stamp) × (v.tiles < 4294967296) }
-    ensures value { result ≡ seen_after g stamp a.old v (triple e.x e.y e.z) }
-    ensures a_after { a.new ≡ work_after g stamp a.old (triple e.x e.y e.z) }
+    ensures value { result ≡ seen_after g stamp a.old v (triple e.x e.y e.third) }
+    ensures a_after { a.new ≡ work_after g stamp a.old (triple e.x e.y e.third) }
 {
-    if !inside(g, e.x, e.y, e.z) {
-        return Seen {
-            tiles: v.tiles,
-            inside: false,
-            twice: v.twice,
-        };
+    if !inside(g, e.x, e.y, e.third) {
+        return Seen { inside: false, ..v };
     }
     let here = layout::tile_at(g, e.x, e.y);
-    mark_pin(a, stamp, here, e.z, v)
+    mark_pin(a, stamp, here, e.third, v)
 }
 
 // The verdict on a line whose form is right: its entries stand from `from` on, and c is the place after it.
-fn verdict(v: Seen, from: usize, c: Cursor) -> PinsRead
+#[tactic(auto, unfolding(crate::specs::Pins::verdict_of))]
+fn verdict(v: Seen, from: usize, c: Cursor) -> Result<(Pins, Cursor), Refusal>
     ensures { result ≡ verdict_of v from c }
 {
     if !v.inside {
-        return PinsRead::Refused(Refusal::Line(Fault::Range, c.line));
+        return Err(Refusal::Line(Fault::Range, c.line));
     }
     if v.twice {
-        return PinsRead::Refused(Refusal::Line(Fault::PinTwice, c.line));
+        return Err(Refusal::Line(Fault::PinTwice, c.line));
     }
     let p = Pins {
         from,
         tiles: v.tiles,
     };
-    PinsRead::Line(p, c)
+    Ok((p, c))
 }
 
 // The entries of a `pins` line, which stand from c on.
-fn entries(s: &[u8], c: Cursor, a: &mut [u32], g: Shape, stamp: u32) -> PinsRead
-    requires shaped { Shaped g }
+fn entries(
+    s: &[u8],
+    c: Cursor,
+    a: &mut [u32],
+    g: Shape,
+    stamp: u32,
+) -> Result<(Pins, Cursor), Refusal>
     requires t_in_bounds { (g.t ≤ length a.old) × (stamp ≤ most_stamp) × (length s.now ≤ 1048576) }
     ensures result_after { pins_told s.now a.new result ≡ finish g stamp c.line start a.old (pins_of (drop c.at s.now)) }
     ensures pins_in { pins_in (length s.now) c.at c.line result }
@@ -123,12 +103,11 @@ fn entries(s: &[u8], c: Cursor, a: &mut [u32], g: Shape, stamp: u32) -> PinsRead
         inside: true,
         twice: false,
     };
+    // not an iterator: between an entry and the end of the line there is a third answer, an entry out of form
     loop {
-        let entry = text::pin_at(s, i);
-        let e = text::item_of(entry);
-        if !e.good {
-            return PinsRead::Refused(Refusal::Line(Fault::Form, c.line));
-        }
+        let Some(e) = text::pin_at(s, i) else {
+            return Err(Refusal::Line(Fault::Form, c.line));
+        };
         v = put_pin(a, g, stamp, v, e);
         i = e.next;
         if e.last {
@@ -141,18 +120,20 @@ fn entries(s: &[u8], c: Cursor, a: &mut [u32], g: Shape, stamp: u32) -> PinsRead
     }
 }
 
-// The `pins` line at c. The marks are those of earlier nets.
-pub fn pins_line(s: &[u8], c: Cursor, a: &mut [u32], g: Shape, stamp: u32) -> PinsRead
-    requires shaped { Shaped g }
+// The `pins` line at c, and the place of the next line. The marks are those of earlier nets.
+pub fn pins_line(
+    s: &[u8],
+    c: Cursor,
+    a: &mut [u32],
+    g: Shape,
+    stamp: u32,
+) -> Result<(Pins, Cursor), Refusal>
     requires t_in_bounds { (g.t ≤ length a.old) × (stamp ≤ most_stamp) × (length s.now ≤ 1048576) × (c.at ≤ length s.now) × (c.line < 1048576) }
     requires older { Older stamp a.old }
     ensures result_after { pins_told s.now a.new result ≡ mapped (pins_marked stamp a.old) (pins_line (sizes_of g) (place_of s.now c)) }
     ensures pins_in { pins_in (length s.now) (c.at + 5) (c.line + 1) result }
     ensures a_len_unchanged { length a.new ≡ length a.old }
 {
-    let o = lines::open_line(s, c, b"pins=");
-    if !o.there {
-        return PinsRead::Refused(Refusal::Line(Fault::Form, o.place.line));
-    }
-    entries(s, o.place, a, g, stamp)
+    let d = lines::expect_line(s, c, b"pins=")?;
+    entries(s, d, a, g, stamp)
 }

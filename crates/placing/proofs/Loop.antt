@@ -12,7 +12,7 @@ use lib.Seq.{drop-cons, ext_get_or, get_or-set_same, get_or-set_other}
 use Rattle.layout.specs.Areas.{tiles_of, links_of}
 use Rattle.layout.specs.Table.{count_column, entries_in, turn_column, vias_column}
 use Rattle.layout.specs.Shapes.{Shaped}
-use Rattle.layout.specs.declared.Shape.{Shape}
+use Rattle.layout.specs.declared.shape.Shape.{Shape}
 use Rattle.marks.specs.Marks.{Older}
 use Rattle.model.specs.Demand3.{turns, choice_vias, cut_by}
 use Rattle.model.specs.Job.{Net, Job, net_count, no_net, net_of, net_entries, entry_count}

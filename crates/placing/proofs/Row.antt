@@ -12,7 +12,7 @@ use borrow.Rule.Slice.PartMut.{put_mid}
 use Rattle.layout.specs.Parts.{back-outside}
 use Rattle.layout.specs.Table.{pins_column, edges_column, first_column, count_column, entries_in, dropped_in}
 use Rattle.layout.specs.Shapes.{Shaped}
-use Rattle.layout.specs.declared.Shape.{Shape}
+use Rattle.layout.specs.declared.shape.Shape.{Shape}
 use Rattle.model.specs.Demand3.{cut_by}
 use Rattle.model.specs.Job.{Net, Job, net_count, no_net, net_of, net_entries, entry_count}
 use Rattle.model.specs.Plan.{layer_of}

@@ -3,7 +3,7 @@
 use Rattle.std.specs.Prelude.{List, [], ◌≡◌, ℕ, suc, ◌-◌, ◌*◌, ◌≤◌, ltb, drop, get_or, set, replicate}
 use Rattle.layout.specs.Areas.{tiles_of, links_of}
 use Rattle.layout.specs.Table.{pins_column, edges_column, first_column, entries_in, dropped_in}
-use Rattle.layout.specs.declared.Shape.{Shape}
+use Rattle.layout.specs.declared.shape.Shape.{Shape}
 use Rattle.marks.specs.Marks.{Older}
 use Rattle.model.specs.Demand3.{cut_by}
 use Rattle.model.specs.Job.{Job, net_count, net_entries, entry_count}

@@ -2,10 +2,8 @@
 #![tactic(auto)]
 
 ghost use Rattle.std.specs.Prelude.{◌≡◌, ℕ, ◌*◌, ◌<◌, ◌≤◌, length, set};
-ghost use Rattle.sets.specs.Mask.{span_of, Charted};
 ghost use Rattle.flat.specs.Limited.{limit_at};
 ghost use Rattle.layout.specs.Areas.{areas_end};
-ghost use Rattle.layout.specs.Shapes.{Shaped};
 ghost use Rattle.layout.specs.Table.{vias_column, table_size};
 ghost use Rattle.marks.specs.Words.{most_stamp};
 ghost use Rattle.model.specs.Job.{Job};
@@ -14,6 +12,8 @@ ghost use Rattle.model.specs.Read.{Lent};
 ghost use Rattle.turn.specs.Turn.{Turn};
 ghost use Rattle.placing.specs.Turns.{row_of, RowTurn, RowTurnSome, RowDone, Start, StartSome, AllPlaced};
 
+use layout::Column;
+use sets::Chart;
 use turn::{Frame, NetAt};
 
 // Of a net: where its entries stand in the text, where its layers begin in the answer list, how many they are, and whether some of them were dropped.
@@ -33,9 +33,9 @@ fn row_of(table: &[u32], i: usize) -> NetRow
     ensures first_bound { (result.first < 4294967296) × (result.count < 4294967296) }
 {
     NetRow {
-        pins: layout::index(table[layout::pins_column(i)]),
-        edges: layout::index(table[layout::edges_column(i)]),
-        first: layout::index(table[layout::first_column(i)]),
+        pins: table[Column::Pins.at(i)] as usize,
+        edges: table[Column::Edges.at(i)] as usize,
+        first: table[Column::First.at(i)] as usize,
         count: layout::entries_in(table, i),
         dropped: 0 < layout::dropped_in(table, i),
     }
@@ -55,11 +55,9 @@ fn turn_of(
     w: &mut [u32],
     table: &mut [u32],
     answer: &mut [u8],
-    chart: &[u32; 256],
+    chart: &Chart,
     turn: NetTurn,
 ) -> u32
-    requires charted { Charted span_of chart.now }
-    requires shaped { Shaped turn.frame.shape }
     requires shape_in_bounds { (areas_end turn.frame.shape ≤ length w.old) × (turn.stamp ≤ most_stamp) × (turn.net < most_nets) × (table_size ≤ length table.old) }
     requires row_turn_some { RowTurnSome s.now turn.frame.shape turn.stamp (limit_at turn.frame.limits) w.old table.old (length answer.old) turn.net }
     ensures row_done { (u : Turn) → RowTurn s.now turn.frame.shape turn.stamp (limit_at turn.frame.limits) w.old table.old (length answer.old) turn.net u → RowDone turn.frame.shape turn.stamp w.new answer.old answer.new turn.net result u }
@@ -76,7 +74,7 @@ fn turn_of(
         dropped: row.dropped,
     };
     let vias = turn::take_turn(s, net, w, turn.frame, &mut answer[from..to], chart);
-    table[layout::vias_column(turn.net)] = vias;
+    table[Column::Vias.at(turn.net)] = vias;
     vias
 }
 
@@ -93,11 +91,9 @@ pub fn place_all(
     w: &mut [u32],
     table: &mut [u32],
     answer: &mut [u8],
-    chart: &[u32; 256],
+    chart: &Chart,
     job: ToPlace,
 ) -> u64
-    requires charted { Charted span_of chart.now }
-    requires shaped { Shaped job.frame.shape }
     requires shape_in_bounds { (areas_end job.frame.shape ≤ length w.old) × (job.nets ≤ most_nets) × (table_size ≤ length table.old) }
     requires start_some { StartSome s.now job.frame.shape job.nets (limit_at job.frame.limits) w.old table.old (length answer.old) }
     ensures all_placed { (lent : Lent) (j : Job) → Start s.now job.frame.shape job.nets (limit_at job.frame.limits) w.old table.old (length answer.old) lent j → AllPlaced j answer.old answer.new table.new result }
@@ -106,7 +102,7 @@ pub fn place_all(
     let frame = job.frame;
     let mut vias = 0u64;
     for k in 0..job.nets {
-        let i = layout::index(table[layout::turn_column(k)]) - 1;
+        let i = table[Column::Turn.at(k)] as usize - 1;
         let turn = NetTurn {
             frame,
             net: i,

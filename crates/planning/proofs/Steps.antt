@@ -1,8 +1,9 @@
 -- From the checked text to the scored job, and from there to the plan.
 -- Assumes nothing.
+use Rattle.std.specs.Prelude.{Option}
 use mathlib.Core.List.{List, []}
 use mathlib.Core.Logic.{inr}
-use mathlib.Core.Path.{◌≡◌, sym, ap, ◌∙◌}
+use mathlib.Core.Path.{◌≡◌, sym, ap, ap₂, ◌∙◌}
 use Prim.Native.Nat.{ℕ, suc, ◌+◌, ◌-◌, ◌*◌, ◌≤◌, ◌<◌, max}
 use native.Mathlib.Omega.{arith}
 use lib.ListN.{length, get_or, replicate}
@@ -11,8 +12,8 @@ use Rattle.head.specs.declared.Head.{Head}
 use Rattle.layout.specs.Areas.{loads_at, demand_at, flat_at, tiles_at, links_at, areas_end, edge-room}
 use Rattle.layout.specs.Parts.{part, Outside, part-outside}
 use Rattle.layout.specs.Shapes.{Shaped}
-use Rattle.layout.specs.declared.Shape.{Shape}
-use Rattle.model.specs.Grid.{east_count}
+use Rattle.layout.specs.declared.shape.Shape.{Shape}
+use Rattle.model.specs.Grid.{east_count, grid_edges}
 use Rattle.model.specs.Job.{Job, net_count, edge_count, entry_count}
 use Rattle.model.specs.Limits.{most_nets}
 use Rattle.model.specs.Overflow.{limit}
@@ -28,7 +29,6 @@ use Rattle.placing.specs.Turns.{Start}
 use Rattle.net.specs.Held.{Held}
 use Rattle.print.specs.Handed.{Handed, plan-rows, plan-text, plan-fits, plan-overwrites}
 use Rattle.print.specs.Texts.{ldof_text, plan_text, Rows}
-use Rattle.print.specs.declared.Ldof.{Ldof}
 use Rattle.reader.specs.Whole.{JobFound}
 use Rattle.theory.specs.links.Closed.{capacity-all}
 use Rattle.theory.specs.links.Limits.{demand-small, capacity-small, maximum-small}
@@ -57,7 +57,7 @@ module _ (s : List ℕ) (lent : Lent) (w table : List ℕ) (h : Head) (k : JobFo
   shaped = k.checked.shaped
 
   layers-are : h.shape.k ≡ k.job.layers
-  layers-are = ap (λ (x : Shape). x.k) k.checked.shape
+  layers-are = k.checked.shape.layers
 
   pub nets-few : h.nets ≤ most_nets
   nets-few = omega (arith, k.nets, job-accepted.count_of_nets)
@@ -78,7 +78,7 @@ module _ (s : List ℕ) (lent : Lent) (w table : List ℕ) (h : Head) (k : JobFo
     still-room = omega (arith, out.long, flat-room)
 
     -- the weights are those of the head
-    module _ (a : Weights) (are : (a.alpha ≡ h.alpha) × (a.beta ≡ h.beta) × (a.gamma ≡ h.gamma) × (a.stamp ≡ suc (2 * h.nets))) where
+    module _ (a : Weights) (are : (a.alpha ≡ h.weights.alpha) × (a.beta ≡ h.weights.beta) × (a.gamma ≡ h.weights.gamma) × (a.stamp ≡ suc (2 * h.nets))) where
       ready : Ready s h.shape a w₁ table lent k.job
       ready =
           ready-checked s h.shape a w w₁ table lent k.job job-accepted k.checked out flat-here (are.0 ∙ k.alpha) (are.1 ∙ k.beta) (are.2 ∙ k.gamma) (omega (arith, are.3, k.nets))
@@ -105,7 +105,7 @@ module _ (s : List ℕ) (lent : Lent) (w table : List ℕ) (h : Head) (k : JobFo
     }
 
     -- and its nets are scored
-    pub opened : (a : Weights) → (a.alpha ≡ h.alpha) × (a.beta ≡ h.beta) × (a.gamma ≡ h.gamma) × (a.stamp ≡ suc (2 * h.nets)) → (w₂ table' : List ℕ)
+    pub opened : (a : Weights) → (a.alpha ≡ h.weights.alpha) × (a.beta ≡ h.weights.beta) × (a.gamma ≡ h.weights.gamma) × (a.stamp ≡ suc (2 * h.nets)) → (w₂ table' : List ℕ)
         → ((l : Lent) (j : Job) → Ready s h.shape a w₁ table l j → PinTiles j table → Marks j table → h.nets ≡ net_count j → Scored s j table')
         → Remarked h.shape (suc (3 * h.nets)) w₁ w₂ → OpenFound s lent w₂ table' h
     opened a are w₂ table' scored remarked = record {
@@ -123,10 +123,10 @@ module _ (s : List ℕ) (h : Head) (w table : List ℕ) (size : ℕ) (lent : Len
   g = h.shape
 
   border-is : h.shape.east ≡ east_count j.width j.height
-  border-is = ap (λ (x : Shape). x.east) at.given.shape
+  border-is = at.given.shaped.east_is ∙ ap₂ east_count at.given.shape.width at.given.shape.height
 
   edges_are : h.shape.e ≡ edge_count j
-  edges_are = ap (λ (x : Shape). x.e) at.given.shape
+  edges_are = at.given.shaped.e_is ∙ ap₂ grid_edges at.given.shape.width at.given.shape.height
 
   pub tiles-room : tiles_at h.shape ≤ length w
   tiles-room = omega (arith, at.given.room)
@@ -155,7 +155,7 @@ module _ (s : List ℕ) (h : Head) (w table : List ℕ) (size : ℕ) (lent : Len
     -- the limits are those of the definitions
     pub limits-told : LimitsAre j (limits_of h.shape w₁ r.most)
     limits-told =
-        limits-are g j w₁ r.most overflows-here.each overflows-here.most (ap (λ (x : Shape). x.k) at.given.shape) edges_are border-is at.given.shaped.east_most at.given.dirs
+        limits-are g j w₁ r.most overflows-here.each overflows-here.most at.given.shape.layers edges_are border-is at.given.shaped.east_most at.given.dirs
 
     -- and the layers that run the other way are closed
     module _ (w₂ : List ℕ) (shut : Closed h.shape w₁ w₂) where
@@ -203,10 +203,10 @@ module _ (s : List ℕ) (h : Head) (w table : List ℕ) (size : ℕ) (lent : Len
   pub directives-asked : Asked s h.shape table lent j
   directives-asked = record {
     accepted = at.given.accepted;
-    width = ap (λ (x : Shape). x.w) at.given.shape;
-    height = ap (λ (x : Shape). x.h) at.given.shape;
-    layers = ap (λ (x : Shape). x.k) at.given.shape;
-    edges = ap (λ (x : Shape). x.e) at.given.shape;
+    width = at.given.shape.width;
+    height = at.given.shape.height;
+    layers = at.given.shape.layers;
+    edges = at.given.shaped.e_is ∙ ap₂ grid_edges at.given.shape.width at.given.shape.height;
     rows = at.rows;
     lows = at.lows;
   }
@@ -216,7 +216,7 @@ module _ (s : List ℕ) (h : Head) (w table : List ℕ) (size : ℕ) (lent : Len
 
 -- ---- a plan that is made
 
-module _ (s : List ℕ) (h : Head) (w table answer answer' table' : List ℕ) (t : Totals) (lent : Lent) (j : Job) (at : Turned 3 s h w table (length answer) lent j) (made : PlanMade j answer answer' table' t) (last : Ldof) (last_told : ldof_text last ≡ ldof_line j) where
+module _ (s : List ℕ) (h : Head) (w table answer answer' table' : List ℕ) (t : Totals) (lent : Lent) (j : Job) (at : Turned 3 s h w table (length answer) lent j) (made : PlanMade j answer answer' table' t) (last : Option ℕ) (last_told : ldof_text last ≡ ldof_line j) where
   acc : Accepted lent j
   acc = at.given.accepted
 

@@ -1,6 +1,6 @@
 -- The nets are placed in their turns, and the plan is told and printed.
 -- Assumes nothing.
-use Rattle.std.specs.Prelude.{List, ◌≡◌, ℕ, suc, ◌*◌, ◌≤◌, max, length}
+use Rattle.std.specs.Prelude.{List, ◌≡◌, ℕ, suc, ◌*◌, ◌≤◌, max, length, Ok, Err, Result as Outcome}
 use Rattle.std.proofs.Common.{arith}
 use Rattle.head.specs.declared.Head.{Head}
 use Rattle.model.specs.Calls.{overwrite}
@@ -14,12 +14,7 @@ use Rattle.net.specs.Dropped.{Remarked, remarked-same}
 use Rattle.net.specs.Table.{Table, TurnsIn, Marks}
 use Rattle.placing.specs.Turns.{AllPlaced}
 use Rattle.planning.specs.Opening.{Given, given-remarked}
-use Rattle.planning.specs.declared.Opened.{Opened}
-use Rattle.planning.specs.declared.Opened.TheVariants.{Job as Read-as, Refused}
-use Rattle.planning.specs.declared.Planned.{Planned}
-use Rattle.planning.specs.declared.Planned.TheVariants.{Plan, Refused as NotPlanned}
-use Rattle.planning.specs.declared.Printed.{Printed}
-use Rattle.planning.specs.declared.Printed.TheVariants.{Print, Refused as NotPrinted}
+use Rattle.text.specs.declared.Refusal.{Refusal}
 use Rattle.planning.specs.declared.Totals.{Totals}
 
 -- the net table has the order of job j and the lowest wanted layers of its nets, and the answer list has this length; at most m stamps of each net were used
@@ -53,13 +48,13 @@ pub record PrintSome (s : List ℕ) (h : Head) (w table : List ℕ) (size bytes 
   pub bytes_room : print_need (net_count job) (entry_count job) ≤ bytes
 
 -- what is asked of an opened job
-abbrev pub ToClose : List ℕ → List ℕ → List ℕ → ℕ → Opened → Type 0
-ToClose s w table size (Read-as h) = TurnedSome 3 s h w table size
-ToClose s w table size (Refused r) = Unit {0}
+abbrev pub ToClose : List ℕ → List ℕ → List ℕ → ℕ → Outcome Head Refusal → Type 0
+ToClose s w table size (Ok h) = TurnedSome 3 s h w table size
+ToClose s w table size (Err r) = Unit {0}
 
-abbrev pub ToPrint : List ℕ → List ℕ → List ℕ → ℕ → ℕ → Opened → Type 0
-ToPrint s w table size bytes (Read-as h) = PrintSome s h w table size bytes
-ToPrint s w table size bytes (Refused r) = Unit {0}
+abbrev pub ToPrint : List ℕ → List ℕ → List ℕ → ℕ → ℕ → Outcome Head Refusal → Type 0
+ToPrint s w table size bytes (Ok h) = PrintSome s h w table size bytes
+ToPrint s w table size bytes (Err r) = Unit {0}
 
 -- the answer list and the net table hold the plan of job j, and t is told of it
 pub record PlanMade (j : Job) (answer answer' table' : List ℕ) (t : Totals) : Type 0 where
@@ -68,16 +63,16 @@ pub record PlanMade (j : Job) (answer answer' table' : List ℕ) (t : Totals) : 
   pub maximum_is : t.maximum ≡ max (limit j 0) (limit j 1)
 
 -- what Plan returns for an opened job
-pub record PlanDone (s : List ℕ) (h : Head) (w table answer answer' : List ℕ) (r : Planned) : Type 0 where
+pub record PlanDone (s : List ℕ) (h : Head) (w table answer answer' : List ℕ) (r : Outcome Totals Refusal) : Type 0 where
   pub totals : Totals
-  pub is : r ≡ Plan totals
+  pub is : r ≡ Ok totals
   pub table' : List ℕ
   pub made : (lent : Lent) (j : Job) → Turned 3 s h w table (length answer) lent j → PlanMade j answer answer' table' totals
 
 -- "answer list [..] unchanged" by a refusal
-abbrev pub PlanClosed : List ℕ → List ℕ → List ℕ → List ℕ → List ℕ → Opened → Planned → Type 0
-PlanClosed s w table answer answer' (Refused f) r = (r ≡ NotPlanned f) × (answer' ≡ answer)
-PlanClosed s w table answer answer' (Read-as h) r = PlanDone s h w table answer answer' r
+abbrev pub PlanClosed : List ℕ → List ℕ → List ℕ → List ℕ → List ℕ → Outcome Head Refusal → Outcome Totals Refusal → Type 0
+PlanClosed s w table answer answer' (Err f) r = (r ≡ Err f) × (answer' ≡ answer)
+PlanClosed s w table answer answer' (Ok h) r = PlanDone s h w table answer answer' r
 
 -- the print of job j stands at the start of the print buffer, and has this length
 pub record PrintMade (j : Job) (out out' : List ℕ) (size : ℕ) : Type 0 where
@@ -85,14 +80,14 @@ pub record PrintMade (j : Job) (out out' : List ℕ) (size : ℕ) : Type 0 where
   pub size_is : size ≡ length (printed j (order j) (plan j))
 
 -- what Print returns, and what stands in its buffer
-pub record PrintDone (s : List ℕ) (h : Head) (w table answer answer' out out' : List ℕ) (r : Printed) : Type 0 where
+pub record PrintDone (s : List ℕ) (h : Head) (w table answer answer' out out' : List ℕ) (r : Outcome (Totals × ℕ) Refusal) : Type 0 where
   pub totals : Totals
   pub size : ℕ
-  pub is : r ≡ Print totals size
+  pub is : r ≡ Ok (totals, size)
   pub table' : List ℕ
   pub made : (lent : Lent) (j : Job) → Turned 3 s h w table (length answer) lent j → PlanMade j answer answer' table' totals
   pub told : (lent : Lent) (j : Job) → Turned 3 s h w table (length answer) lent j → print_need (net_count j) (entry_count j) ≤ length out → PrintMade j out out' size
 
-abbrev pub PrintClosed : List ℕ → List ℕ → List ℕ → List ℕ → List ℕ → List ℕ → List ℕ → Opened → Printed → Type 0
-PrintClosed s w table answer answer' out out' (Refused f) r = (r ≡ NotPrinted f) × ((answer' ≡ answer) × (out' ≡ out))
-PrintClosed s w table answer answer' out out' (Read-as h) r = PrintDone s h w table answer answer' out out' r
+abbrev pub PrintClosed : List ℕ → List ℕ → List ℕ → List ℕ → List ℕ → List ℕ → List ℕ → Outcome Head Refusal → Outcome (Totals × ℕ) Refusal → Type 0
+PrintClosed s w table answer answer' out out' (Err f) r = (r ≡ Err f) × ((answer' ≡ answer) × (out' ≡ out))
+PrintClosed s w table answer answer' out out' (Ok h) r = PrintDone s h w table answer answer' out out' r

@@ -1,11 +1,11 @@
 -- A text that is read, and the nets of its job scored.
 -- Assumes nothing.
-use Rattle.std.specs.Prelude.{List, ◌≡◌, ℕ, suc, ◌+◌, ◌-◌, ◌*◌, ◌≤◌, length}
+use Rattle.std.specs.Prelude.{List, ◌≡◌, ℕ, suc, ◌+◌, ◌-◌, ◌*◌, ◌≤◌, length, Ok, Err, Result as Outcome}
 use Rattle.std.proofs.Common.{◌∙◌, arith}
 use Rattle.head.specs.declared.Head.{Head}
 use Rattle.layout.specs.Areas.{loads_at, demand_at, flat_at, areas_end, edge-room}
 use Rattle.layout.specs.Dirs.{dirs_of}
-use Rattle.layout.specs.Shapes.{shape_of, Shaped}
+use Rattle.layout.specs.Shapes.{ShapeOf, Shaped}
 use Rattle.lines.specs.Told.{refused_by}
 use Rattle.model.specs.Job.{Job, net_count}
 use Rattle.model.specs.Read.{Lent, Place, found, read}
@@ -14,13 +14,12 @@ use Rattle.net.specs.SoFar.{Capacities}
 use Rattle.order.specs.Ready.{Scored}
 use Rattle.theory.specs.links.Reading.{Accepted}
 use Rattle.flat.specs.FlatPlan.{FlatCapacities, FlatDemands, NoLoads}
-use Rattle.planning.specs.declared.Opened.{Opened}
-use Rattle.planning.specs.declared.Opened.TheVariants.{Job as Read-as, Refused}
+use Rattle.text.specs.declared.Refusal.{Refusal}
 
 -- the working numbers hold the flat plan of the accepted job j, no net is placed, and of each net at most m stamps were used
 pub record Given (m : ℕ) (h : Head) (w : List ℕ) (lent : Lent) (j : Job) : Type 0 where
   pub accepted : Accepted lent j
-  pub shape : h.shape ≡ shape_of j.width j.height j.layers h.shape.dirs
+  pub shape : ShapeOf j.width j.height j.layers h.shape.dirs h.shape
   pub dirs : dirs_of h.shape.k h.shape.dirs ≡ j.dirs
   pub shaped : Shaped h.shape
   pub room : areas_end h.shape ≤ length w
@@ -55,11 +54,11 @@ pub record OpenFound (s : List ℕ) (lent : Lent) (w table : List ℕ) (h : Head
   pub given : Given 3 h w lent job
   pub scored : Scored s job table
 
-abbrev pub OpenTold : List ℕ → Lent → List ℕ → List ℕ → Opened → Type 0
-OpenTold s lent w table (Refused r) = read lent s ≡ refused_by r
-OpenTold s lent w table (Read-as h) = OpenFound s lent w table h
+abbrev pub OpenTold : List ℕ → Lent → List ℕ → List ℕ → Outcome Head Refusal → Type 0
+OpenTold s lent w table (Err r) = read lent s ≡ refused_by r
+OpenTold s lent w table (Ok h) = OpenFound s lent w table h
 
 -- how many entries of the order list there are to write
-abbrev pub nets_of : Opened → ℕ
-nets_of (Read-as h) = h.nets
-nets_of (Refused r) = 0
+abbrev pub nets_of : Outcome Head Refusal → ℕ
+nets_of (Ok h) = h.nets
+nets_of (Err r) = 0

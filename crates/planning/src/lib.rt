@@ -2,30 +2,23 @@
 // working numbers are zero after every call.
 #![tactic(auto)]
 
-ghost use Rattle.std.specs.Prelude.{◌≡◌, ℕ, suc, ◌*◌, ◌≤◌, length, replicate};
+ghost use Rattle.std.specs.Prelude.{◌≡◌, ℕ, suc, ◌*◌, ◌≤◌, length, replicate, Ok};
 ghost use Rattle.layout.specs.Table.{table_size};
 ghost use Rattle.model.specs.Job.{Job};
 ghost use Rattle.model.specs.Limits.{most_nets};
 ghost use Rattle.model.specs.Read.{Lent};
 ghost use Rattle.reader.specs.Whole.{lent_by, HeadTold};
-ghost use Rattle.reader.specs.declared.PrintRoom.TheVariants.{Absent, Bytes};
 ghost use Rattle.planning.specs.Opening.{OpenTold, nets_of};
 ghost use Rattle.planning.specs.Closing.{Turned, TurnedSome, ToClose, PrintSome, ToPrint, PlanMade, PlanClosed, PrintDone, PrintClosed};
 
-use head::{Head, HeadRead};
+use head::Head;
 use order::Weights;
 use placing::ToPlace;
 use print::Counts;
-use reader::{JobRead, Lists, PrintRoom};
-use text::Refusal;
+use reader::Lists;
+use sets::Chart;
+use text::{Cursor, Refusal};
 use turn::Frame;
-
-// A text that is read: a job whose nets are scored, or its refusal.
-#[derive(Clone, Copy)]
-pub enum Opened {
-    Job(Head),
-    Refused(Refusal),
-}
 
 // Total vias, total and maximum of the plan.
 #[derive(Clone, Copy)]
@@ -35,94 +28,53 @@ pub struct Totals {
     pub maximum: u64,
 }
 
-// What Plan returns.
-#[derive(Clone, Copy)]
-pub enum Planned {
-    Plan(Totals),
-    Refused(Refusal),
-}
-
-// What Print returns: the same, and the length of its text.
-#[derive(Clone, Copy)]
-pub enum Printed {
-    Print(Totals, usize),
-    Refused(Refusal),
-}
-
 // ---- before the order list stands
 
 // The weights of a job, and the first stamp that its scoring has: two to each net are those of the reading.
 fn weights_of(h: Head) -> Weights
     requires { h.nets ≤ most_nets }
-    ensures { (result.alpha ≡ h.alpha) × (result.beta ≡ h.beta) × (result.gamma ≡ h.gamma) × (result.stamp ≡ suc (2 * h.nets)) }
+    ensures { (result.alpha ≡ h.weights.alpha) × (result.beta ≡ h.weights.beta) × (result.gamma ≡ h.weights.gamma) × (result.stamp ≡ suc (2 * h.nets)) }
 {
     Weights {
-        alpha: h.alpha as u64,
-        beta: h.beta as u64,
-        gamma: h.gamma as u64,
+        alpha: h.weights.alpha as u64,
+        beta: h.weights.beta as u64,
+        gamma: h.weights.gamma as u64,
         stamp: (2 * h.nets + 1) as u32,
     }
 }
 
 // Reads the text behind its head, and scores the nets of its job.
-fn open_job(s: &[u8], w: &mut [u32], table: &mut [u32], head: HeadRead, lists: Lists) -> Opened
+fn open_job(
+    s: &[u8],
+    w: &mut [u32],
+    table: &mut [u32],
+    head: Result<(Head, Cursor), Refusal>,
+    lists: Lists,
+) -> Result<Head, Refusal>
     requires head_told { HeadTold s.now (length w.old) lists.order w.old head }
     requires table_size_in_bounds { table_size ≤ length table.old }
     ensures { OpenTold s.now (lent_by (length w.old) lists.order lists.answer lists.print) w.new table.new result }
 {
-    match reader::read_job(s, w, table, head, lists) {
-        JobRead::Refused(r) => Opened::Refused(r),
-        JobRead::Job(h) => {
-            flat::flat_capacities(w, h.shape);
-            order::score_nets(s, w, h.shape, weights_of(h), table, h.nets);
-            Opened::Job(h)
-        }
-    }
+    let h = reader::read_job(s, w, table, head, lists)?;
+    flat::flat_capacities(w, h.shape);
+    order::score_nets(s, w, h.shape, weights_of(h), table, h.nets);
+    Ok(h)
 }
 
-// For Plan, which borrows no print buffer.
-pub fn open_plan(s: &[u8], w: &mut [u32], table: &mut [u32], order: usize, answer: usize) -> Opened
+// The text read, and the nets of its job scored: what the head of the job says, or the refusal of the text.
+pub fn open(s: &[u8], w: &mut [u32], table: &mut [u32], lists: Lists) -> Result<Head, Refusal>
     requires { table_size ≤ length table.old }
-    ensures { OpenTold s.now (lent_by (length w.old) order answer Absent) w.new table.new result }
+    ensures { OpenTold s.now (lent_by (length w.old) lists.order lists.answer lists.print) w.new table.new result }
 {
-    let head = reader::open_head(s, w, order);
-    let lists = Lists {
-        order,
-        answer,
-        print: PrintRoom::Absent,
-    };
-    open_job(s, w, table, head, lists)
-}
-
-// For Print, whose buffer has `out` bytes.
-pub fn open_print(
-    s: &[u8],
-    w: &mut [u32],
-    table: &mut [u32],
-    order: usize,
-    answer: usize,
-    out: usize,
-) -> Opened
-    requires { table_size ≤ length table.old }
-    ensures { OpenTold s.now (lent_by (length w.old) order answer (Bytes out)) w.new table.new result }
-{
-    let head = reader::open_head(s, w, order);
-    let lists = Lists {
-        order,
-        answer,
-        print: PrintRoom::Bytes(out),
-    };
+    let head = reader::open_head(s, w, lists.order);
     open_job(s, w, table, head, lists)
 }
 
 // How many entries of the order list there are to write.
-pub fn nets_of(o: Opened) -> usize
+pub fn nets_of(o: Result<Head, Refusal>) -> usize
     ensures { result ≡ nets_of o }
 {
-    match o {
-        Opened::Job(h) => h.nets,
-        Opened::Refused(_) => 0,
-    }
+    o.map_or(0, |h| h.nets)
 }
 
 // ---- once the net table has the order
@@ -137,8 +89,7 @@ fn place_nets(s: &[u8], h: Head, w: &mut [u32], table: &mut [u32], answer: &mut 
     let flat = flat::overflows(w, shape);
     let limits = flat::limits_of(w, shape, flat.most);
     tracks::close_layers(w, shape);
-    let mut chart = [0u32; 256];
-    sets::fill_chart(&mut chart);
+    let chart = Chart::new();
     let job = ToPlace {
         frame: Frame { shape, limits },
         nets: h.nets,
@@ -151,15 +102,20 @@ fn place_nets(s: &[u8], h: Head, w: &mut [u32], table: &mut [u32], answer: &mut 
     }
 }
 
-fn plan_opened(s: &[u8], w: &mut [u32], table: &mut [u32], answer: &mut [u8], o: Opened) -> Planned
+// The nets of a job placed; a refusal is passed on.
+fn plan_opened(
+    s: &[u8],
+    w: &mut [u32],
+    table: &mut [u32],
+    answer: &mut [u8],
+    o: Result<Head, Refusal>,
+) -> Result<Totals, Refusal>
     requires { ToClose s.now w.old table.old (length answer.old) o }
     ensures plan_closed { PlanClosed s.now w.old table.old answer.old answer.new o result }
     ensures w_len_unchanged { length w.new ≡ length w.old }
 {
-    match o {
-        Opened::Refused(r) => Planned::Refused(r),
-        Opened::Job(h) => Planned::Plan(place_nets(s, h, w, table, answer)),
-    }
+    let h = o?;
+    Ok(place_nets(s, h, w, table, answer))
 }
 
 // Plan after the order list: the nets are placed, and the working numbers cleared.
@@ -168,8 +124,8 @@ pub fn close_plan(
     w: &mut [u32],
     table: &mut [u32],
     answer: &mut [u8],
-    o: Opened,
-) -> Planned
+    o: Result<Head, Refusal>,
+) -> Result<Totals, Refusal>
     requires { ToClose s.now w.old table.old (length answer.old) o }
     ensures plan_closed { PlanClosed s.now w.old table.old answer.old answer.new o result }
     ensures w_after { w.new ≡ replicate (length w.old) 0 }
@@ -179,7 +135,7 @@ pub fn close_plan(
     r
 }
 
-// Places the nets, and writes the print of their plan.
+// Places the nets, and writes the print of their plan: its length too.
 fn print_nets(
     s: &[u8],
     h: Head,
@@ -187,9 +143,9 @@ fn print_nets(
     table: &mut [u32],
     answer: &mut [u8],
     out: &mut [u8],
-) -> Printed
+) -> (Totals, usize)
     requires { PrintSome s.now h w.old table.old (length answer.old) (length out.old) }
-    ensures print_done { PrintDone s.now h w.old table.old answer.old answer.new out.old out.new result }
+    ensures print_done { PrintDone s.now h w.old table.old answer.old answer.new out.old out.new (Ok result) }
     ensures w_len_unchanged { length w.new ≡ length w.old }
 {
     let last = directives::ldof_of(s, w, h.shape, table, h.nets);
@@ -202,25 +158,24 @@ fn print_nets(
         last,
     };
     let size = print::put_plan(out, table, answer, counts);
-    Printed::Print(t, size)
+    (t, size)
 }
 
+// The same, and the print of the plan written: its length too.
 fn print_opened(
     s: &[u8],
     w: &mut [u32],
     table: &mut [u32],
     answer: &mut [u8],
     out: &mut [u8],
-    o: Opened,
-) -> Printed
+    o: Result<Head, Refusal>,
+) -> Result<(Totals, usize), Refusal>
     requires { ToPrint s.now w.old table.old (length answer.old) (length out.old) o }
     ensures print_closed { PrintClosed s.now w.old table.old answer.old answer.new out.old out.new o result }
     ensures w_len_unchanged { length w.new ≡ length w.old }
 {
-    match o {
-        Opened::Refused(r) => Printed::Refused(r),
-        Opened::Job(h) => print_nets(s, h, w, table, answer, out),
-    }
+    let h = o?;
+    Ok(print_nets(s, h, w, table, answer, out))
 }
 
 // Print after the order list, likewise.
@@ -230,8 +185,8 @@ pub fn close_print(
     table: &mut [u32],
     answer: &mut [u8],
     out: &mut [u8],
-    o: Opened,
-) -> Printed
+    o: Result<Head, Refusal>,
+) -> Result<(Totals, usize), Refusal>
     requires { ToPrint s.now w.old table.old (length answer.old) (length out.old) o }
     ensures print_closed { PrintClosed s.now w.old table.old answer.old answer.new out.old out.new o result }
     ensures w_after { w.new ≡ replicate (length w.old) 0 }

@@ -1,7 +1,7 @@
 -- The text written from what the net table and the answer list hold of a planned job is the job's print.
 -- Assumes nothing.
 use mathlib.Core.List.{List, [], ◌∷◌, ◌++◌, map, append_assoc}
-use Rattle.std.specs.Prelude.{◌≡◌, refl, ℕ, zero, suc, ◌+◌, ◌-◌, ◌≤◌, ◌<◌, length, take, drop, get_or}
+use Rattle.std.specs.Prelude.{Option, ◌≡◌, refl, ℕ, zero, suc, ◌+◌, ◌-◌, ◌≤◌, ◌<◌, length, take, drop, get_or}
 use Rattle.std.proofs.Common.{sym, ap₂, ◌∙◌, arith}
 use Rattle.std.proofs.Math.Path.{ap}
 use Rattle.std.proofs.lemmas.List.{length-map}
@@ -26,7 +26,6 @@ use Rattle.theory.proofs.links.Room.{print-room}
 use Rattle.theory.specs.links.Stretches.{offset-room, cut-length, cut_at}
 use Rattle.net.specs.Held.{Held}
 use Rattle.print.specs.Texts.{vias_of, layers_of, nets_text, turns_of, totals_text, lines_text, ldof_text, plan_text, Rows}
-use Rattle.print.specs.declared.Ldof.{Ldof}
 use Rattle.put.specs.Wrote.{sets-overwrite}
 
 -- ---- a list number by number
@@ -130,7 +129,7 @@ module _ (j : Job) (y : List (List ℕ)) (plan-long : length y ≡ net_count j) 
 -- ---- what is written for an accepted job
 
 -- what is handed over: N, the nets in placing order, which stand in the net table, and what is told of the plan
-pub record Handed (j : Job) (n : ℕ) (table : List ℕ) (vias total most : ℕ) (last : Ldof) : Type 0 where
+pub record Handed (j : Job) (n : ℕ) (table : List ℕ) (vias total most : ℕ) (last : Option ℕ) : Type 0 where
   pub count : n ≡ net_count j
   pub turns : (k : ℕ) → k < n → get_or table (turn_column k) 0 ≡ (entry_at (order j) k).net
   pub vias_told : vias ≡ total_vias j (plan j)
@@ -139,7 +138,7 @@ pub record Handed (j : Job) (n : ℕ) (table : List ℕ) (vias total most : ℕ)
   pub last_told : ldof_text last ≡ ldof_line j
 
 module _ (lent : Lent) (j : Job) (acc : Accepted lent j) (table answer : List ℕ) (held : Held j (plan j) table answer)
-    (n vias total most : ℕ) (last : Ldof) (handed : Handed j n table vias total most last) where
+    (n vias total most : ℕ) (last : Option ℕ) (handed : Handed j n table vias total most last) where
   pub plan-rows : Rows n table answer
   plan-rows i h = held_rows j (plan j) (plan-in-turn lent j acc).one_each table answer held acc.count_of_nets i (omega (arith, handed.count))
 

@@ -1,6 +1,6 @@
 -- The texts that are written, over what the net table and the answer list hold.
 -- Assumes nothing.
-use Rattle.std.specs.Prelude.{List, [], ◌∷◌, ◌++◌, map, ◌≡◌, ℕ, zero, suc, ◌+◌, ◌-◌, ◌*◌, ◌≤◌, ◌<◌, length, get_or}
+use Rattle.std.specs.Prelude.{Option, Some, None, List, [], ◌∷◌, ◌++◌, map, ◌≡◌, ℕ, zero, suc, ◌+◌, ◌-◌, ◌*◌, ◌≤◌, ◌<◌, length, get_or}
 use Rattle.std.proofs.Common.{sym, ap, ap₂, ◌∙◌, add-one, arith}
 use Rattle.std.proofs.lemmas.List.{length-map}
 use Rattle.layout.specs.Parts.{part}
@@ -9,8 +9,6 @@ use Rattle.model.specs.Limits.{most_nets}
 use Rattle.model.specs.Lists.{up_from}
 use Rattle.model.specs.Print.{print_line, print_net, print_nets}
 use Rattle.theory.specs.congestion.Base.{length-up_from}
-use Rattle.print.specs.declared.Ldof.{Ldof}
-use Rattle.print.specs.declared.Ldof.TheVariants.{Absent, Sum}
 
 -- ---- the nets of the table, counted from 0
 
@@ -82,9 +80,9 @@ lines_text n table answer vias total most =
     print_line "order" (turns_of table n) ++ nets_text table answer 0 n ++ totals_text vias total most
 
 -- the line `ldof`, where it is printed
-abbrev pub ldof_text : Ldof → List ℕ
-ldof_text Absent = []
-ldof_text (Sum v) = print_line "ldof" (v ∷ [])
+abbrev pub ldof_text : Option ℕ → List ℕ
+ldof_text None = []
+ldof_text (Some v) = print_line "ldof" (v ∷ [])
 
-abbrev pub plan_text : ℕ → List ℕ → List ℕ → ℕ → ℕ → ℕ → Ldof → List ℕ
+abbrev pub plan_text : ℕ → List ℕ → List ℕ → ℕ → ℕ → ℕ → Option ℕ → List ℕ
 plan_text n table answer vias total most last = lines_text n table answer vias total most ++ ldof_text last

@@ -12,6 +12,8 @@ ghost use Rattle.model.specs.Text.{decimal, decimals};
 ghost use Rattle.print.specs.Texts.{row_text, nets_text, turns_of, totals_text, lines_text, ldof_text, plan_text, RowInside, Rows};
 ghost use Rattle.put.specs.Wrote.{Wrote};
 
+use layout::Column;
+
 // ---- the nets in placing order
 
 // The net whose turn is k, counted from 0, as the net table has it.
@@ -19,7 +21,7 @@ fn turn_of(table: &[u32], k: usize) -> u32
     requires { (k < most_nets) × (turn_column k < length table.now) }
     ensures { result ≡ get_or table.now (turn_column k) 0 }
 {
-    table[layout::turn_column(k)]
+    table[Column::Turn.at(k)]
 }
 
 // The nets of n turns.
@@ -78,14 +80,14 @@ fn first_of(table: &[u32], i: usize) -> u32
     requires { (i < most_nets) × (first_column i < length table.now) }
     ensures { result ≡ get_or table.now (first_column i) 0 }
 {
-    table[layout::first_column(i)]
+    table[Column::First.at(i)]
 }
 
 fn vias_of(table: &[u32], i: usize) -> u32
     requires { (i < most_nets) × (vias_column i < length table.now) }
     ensures { result ≡ get_or table.now (vias_column i) 0 }
 {
-    table[layout::vias_column(i)]
+    table[Column::Vias.at(i)]
 }
 
 // Its lines: it has the number i + 1.
@@ -125,30 +127,24 @@ fn put_totals(b: &mut [u8], at: usize, vias: u64, total: u64, most: u64) -> usiz
 }
 
 // "printed as a last line `ldof`, in jobs that have a `low` line"
-#[derive(Clone, Copy)]
-pub enum Ldof {
-    Absent,
-    Sum(u64),
-}
-
-fn put_ldof(b: &mut [u8], at: usize, last: Ldof) -> usize
+fn put_ldof(b: &mut [u8], at: usize, last: Option<u64>) -> usize
     requires { at + length (ldof_text last) ≤ length b.old }
     ensures { Wrote at (ldof_text last) b.old b.new result }
 {
     match last {
-        Ldof::Absent => at,
-        Ldof::Sum(v) => put::line(b, at, b"ldof=", v),
+        None => at,
+        Some(v) => put::line(b, at, b"ldof=", v),
     }
 }
 
-// The numbers of a plan: how many nets it has, its totals, and the last line.
+// The numbers of a plan: how many nets it has, its totals, and the number of the last line, in jobs that have it.
 #[derive(Clone, Copy)]
 pub struct Counts {
     pub nets: usize,
     pub vias: u64,
     pub total: u64,
     pub most: u64,
-    pub last: Ldof,
+    pub last: Option<u64>,
 }
 
 // The lines of every plan, from place 0 on: the net table has a row for each net, and in them the nets in placing order.

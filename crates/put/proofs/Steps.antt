@@ -3,33 +3,17 @@
 use mathlib.Core.List.{List, [], ◌∷◌}
 use mathlib.Core.Path.{◌≡◌, refl, sym, ap, ◌∙◌}
 use Prim.Native.Nat.{ℕ, ◌+◌, ◌-◌, ◌/◌, ◌%◌, ◌≤◌, ◌<◌}
-use native.Mathlib.Nat.{add-zero}
-use native.Mathlib.Numerals.{add-one}
 use native.Mathlib.Omega.{arith}
 use lib.ListN.{length, drop, get_or, set, length-append}
-use lib.Seq.{sets, drop-cons, drop-length}
+use lib.Seq.{sets, drop-length}
 use Rattle.model.specs.Text.{decimal, decimals}
 use Rattle.theory.specs.links.Decimals.{decimal-one, decimal-parts}
 use Rattle.put.specs.Lists.{others, first_more, others-more}
-use Rattle.put.specs.Wrote.{Wrote, Left, sets_last, wrote-long, wrote_then, wrote_as, left-start, left-then, left-done, left_as}
+use Rattle.put.specs.Wrote.{Wrote, Left, sets_last, wrote-long, wrote_then, wrote_as, left-then, left-done, left_as}
 
 -- one byte
 pub put_one : (w : List ℕ) (k v m : ℕ) → m ≡ k + 1 → Wrote k (v ∷ []) w (set w k v) m
 put_one w k v m e = record { buffer = refl; next = e }
-
--- ---- the bytes of a text
-
-module _ (a : ℕ) (x w : List ℕ) where
-  pub text-start : Left a x w (a + 0) x w
-  text-start = rw add-zero (left-start a x w)
-
-  pub text-more : (i : ℕ) (w' : List ℕ) → i < length x → Left a x w (a + i) (drop i x) w' → Left a x w (a + (i + 1)) (drop (i + 1) x) (set w' (a + i) (get_or x i 0))
-  text-more i w' h l =
-      left-then {y = drop (i + 1) x} (left_as (drop-cons x i 0 h ∙ ap (λ (k : ℕ). get_or x i 0 ∷ drop k x) (sym (add-one i))) l)
-      (put_one w' (a + i) (get_or x i 0) (a + (i + 1)) (omega arith))
-
-  pub text-done : (i : ℕ) (w' : List ℕ) → i ≡ length x → Left a x w (a + i) (drop i x) w' → Wrote a x w w' (a + length x)
-  text-done i w' e l = left-done (left_as (drop-length x) (rw e at l))
 
 -- ---- the digits of a number
 

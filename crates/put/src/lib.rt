@@ -20,10 +20,9 @@ pub fn text(b: &mut [u8], at: usize, x: &[u8]) -> usize
     requires { at + length x.now ≤ length b.old }
     ensures { Wrote at x.now b.old b.new result }
 {
-    for i in 0..x.len() {
-        b[at + i] = x[i];
-    }
-    at + x.len()
+    let end = at + x.len();
+    b[at..end].copy_from_slice(x);
+    end
 }
 
 // ---- a number in base ten
@@ -34,6 +33,7 @@ fn digits_divided(n: u64) -> usize
 {
     let mut count: usize = 1;
     let mut left = n;
+    // not a `for`: the number of turns is what is looked for
     while 10 <= left {
         left = left / 10;
         count += 1;
@@ -68,6 +68,7 @@ fn digits_at(b: &mut [u8], at: usize, n: u64) -> usize
     let end = at + digits(n);
     let mut i = end;
     let mut left = n;
+    // not a `for`: it ends with the number that is divided
     while 10 <= left {
         i -= 1;
         b[i] = 48 + (left % 10) as u8;

@@ -1,8 +1,9 @@
 -- The end of the text, and the rest of it behind the head.
 -- Assumes nothing.
+use Rattle.std.specs.Prelude.{Some, Ok, Err, Option as Maybe}
 use mathlib.Core.Bool.{true, false}
 use mathlib.Core.List.{List}
-use mathlib.Core.Path.{◌≡◌, sym, ap, ◌∙◌, subst}
+use mathlib.Core.Path.{◌≡◌, sym, ap, ◌∙◌}
 use Prim.Native.Nat.{ℕ, suc, ◌+◌, ◌*◌, ◌≤◌, ◌<◌}
 use native.Mathlib.Omega.{arith}
 use borrow.Author.Tests.{le-leb, lt-leb}
@@ -14,51 +15,41 @@ use Rattle.head.specs.Told.{head_job}
 use Rattle.head.specs.declared.Head.{Head}
 use Rattle.layout.specs.Shapes.{sizes_of}
 use Rattle.lines.specs.Told.{refused_by}
-use Rattle.lines.specs.declared.Listed.{Listed}
-use Rattle.lines.specs.declared.Listed.TheVariants.{Next, Refused as Unlisted}
 use Rattle.model.specs.Job.{Net, Job, entry_count}
-use Rattle.model.specs.Read.{Place, Result, next, give, nets, print_need, print_fits}
+use Rattle.model.specs.Read.{Place, Result, found, next, give, nets, print_need, print_fits}
 use Rattle.text.specs.Refusals.{place_of}
 use Rattle.text.specs.declared.Cursor.{Cursor}
 use Rattle.text.specs.declared.Fault.TheVariants.{Form}
 use Rattle.text.specs.declared.Refusal.{Refusal}
 use Rattle.text.specs.declared.Refusal.TheVariants.{Line, Short}
-use Rattle.nets.specs.Nets.{turn_told, NetsFound, NetsTold}
+use Rattle.nets.specs.Nets.{turn_told, NetsFound}
 use Rattle.reader.specs.Whole.{print_lent, lent_by, end_in, job_of, rest-splits, RestFound}
-use Rattle.nets.specs.declared.NetsRead.{NetsRead}
-use Rattle.nets.specs.declared.NetsRead.TheVariants.{Nets as all_read}
-use Rattle.reader.specs.declared.PrintRoom.{PrintRoom}
-use Rattle.reader.specs.declared.PrintRoom.TheVariants.{Bytes}
 
-pub fits-bytes : (n entries m : ℕ) (print : PrintRoom) → print ≡ Bytes m → leb (256 + 64 * n + 2 * entries) m ≡ print_fits (print_need n entries) (print_lent print)
+pub fits-bytes : (n entries m : ℕ) (print : Maybe ℕ) → print ≡ Some m → leb (256 + 64 * n + 2 * entries) m ≡ print_fits (print_need n entries) (print_lent print)
 fits-bytes n entries m print e = rw e
 
-module _ (s : List ℕ) (c : Cursor) (n entries answer : ℕ) (print : PrintRoom) where
-  pub end_more : c.at < length s → turn_told s (Unlisted (Line Form (c.line + 1))) ≡ end_in n entries answer (print_lent print) (place_of s c)
+module _ (s : List ℕ) (c : Cursor) (n entries answer : ℕ) (print : Maybe ℕ) where
+  pub end_more : c.at < length s → turn_told s (Err (Line Form (c.line + 1))) ≡ end_in n entries answer (print_lent print) (place_of s c)
   unfolding end_in
   end_more h = let y : suc c.line ≡ c.line + 1 = omega arith in sym (rw (drop-cons s c.at 0 h, y))
 
   module _ (h : length s ≤ c.at) where
-    pub end_short : answer < entries → turn_told s (Unlisted (Short c.line)) ≡ end_in n entries answer (print_lent print) (place_of s c)
+    pub end_short : answer < entries → turn_told s (Err (Short c.line)) ≡ end_in n entries answer (print_lent print) (place_of s c)
     unfolding end_in
     end_short l = sym (rw (drop_of_length-le s {i = c.at} h, lt-leb entries answer l))
 
     module _ (l : entries ≤ answer) where
-      pub end-narrow : print_fits (print_need n entries) (print_lent print) ≡ false → turn_told s (Unlisted (Short c.line)) ≡ end_in n entries answer (print_lent print) (place_of s c)
+      pub end-narrow : print_fits (print_need n entries) (print_lent print) ≡ false → turn_told s (Err (Short c.line)) ≡ end_in n entries answer (print_lent print) (place_of s c)
       unfolding end_in
       end-narrow f = sym (rw (drop_of_length-le s {i = c.at} h, le-leb entries answer l, f))
 
-      pub end_fits : print_fits (print_need n entries) (print_lent print) ≡ true → turn_told s (Next c) ≡ end_in n entries answer (print_lent print) (place_of s c)
+      pub end_fits : print_fits (print_need n entries) (print_lent print) ≡ true → turn_told s (Ok c) ≡ end_in n entries answer (print_lent print) (place_of s c)
       unfolding end_in
       end_fits f = sym (rw (drop_of_length-le s {i = c.at} h, le-leb entries answer l, f))
 
 -- ---- behind the head
 
-pub nets-found : (s : List ℕ) (h : Head) (n line : ℕ) (w₀ w table : List ℕ) (r : Result (List Net)) (v : NetsRead) (d : Cursor) (entries : ℕ) → v ≡ all_read d entries
-    → NetsTold s h.shape n line w₀ w table r v → NetsFound s h.shape n line w₀ w table r d entries
-nets-found s h n line w₀ w table r v d entries e t = subst (λ (x : NetsRead). NetsTold s h.shape n line w₀ w table r x) e t
-
-module _ (s : List ℕ) (h : Head) (answer : ℕ) (print : PrintRoom) (p : Place) (w₀ : List ℕ) where
+module _ (s : List ℕ) (h : Head) (answer : ℕ) (print : Maybe ℕ) (p : Place) (w₀ : List ℕ) where
   abbrev all : Result (List Net)
   all = nets (sizes_of h.shape) 1 h.nets p
 
@@ -80,20 +71,17 @@ module _ (s : List ℕ) (h : Head) (answer : ℕ) (print : PrintRoom) (p : Place
         ∙ ap (λ (r : Result (List Net)). next r ended) k.is
         ∙ ap (λ (a : ℕ). next (end_in h.nets a answer (print_lent print) (place_of s d)) (λ u. give (job_of h w₀ k.nets))) (sym k.so_read.entries_are)
 
-    module _ (r : Listed) (told : turn_told s r ≡ end_in h.nets entries answer (print_lent print) (place_of s d)) where
-      pub rest-no-end : (f : Refusal) → r ≡ Unlisted f → (working order : ℕ) → rest_in (lent_by working order answer print) (head_job h w₀) p ≡ refused_by f
-      rest-no-end f e working order =
-          rest-ends working order
-          ∙ ap (λ (x : Result (Unit {0})). next x (λ u. give (job_of h w₀ k.nets))) (sym told ∙ ap (turn_told s) e)
+    pub rest-no-end : (f : Refusal) → refused_by f ≡ end_in h.nets entries answer (print_lent print) (place_of s d)
+        → (working order : ℕ) → rest_in (lent_by working order answer print) (head_job h w₀) p ≡ refused_by f
+    rest-no-end f told working order =
+        rest-ends working order ∙ ap (λ (x : Result (Unit {0})). next x (λ u. give (job_of h w₀ k.nets))) (sym told)
 
-      pub rest-found : (c : Cursor) → r ≡ Next c → RestFound s h answer print p w₀ w table
-      rest-found c e = record {
-        nets_read = k.nets;
-        place = place_of s c;
-        is = λ working order.
-            rest-ends working order
-            ∙ ap (λ (x : Result (Unit {0})). next x (λ u. give (job_of h w₀ k.nets))) (sym told ∙ ap (turn_told s) e);
-        count = k.count;
-        entries = entries;
-        so_read = k.so_read;
-      }
+    pub rest-found : (q : Place) → found tt q ≡ end_in h.nets entries answer (print_lent print) (place_of s d) → RestFound s h answer print p w₀ w table
+    rest-found q told = record {
+      nets_read = k.nets;
+      place = q;
+      is = λ working order. rest-ends working order ∙ ap (λ (x : Result (Unit {0})). next x (λ u. give (job_of h w₀ k.nets))) (sym told);
+      count = k.count;
+      entries = entries;
+      so_read = k.so_read;
+    }

@@ -1,5 +1,6 @@
 -- The head, and behind it the rest: the job, and what the working numbers hold of it.
 -- Assumes nothing.
+use Rattle.std.specs.Prelude.{Ok, Err, Option as Maybe, Result as Outcome}
 use mathlib.Core.Bool.{Bool, true, false}
 use mathlib.Core.List.{List, ◌∷◌}
 use mathlib.Core.Path.{◌≡◌, refl, sym, ap, ◌∙◌, subst}
@@ -11,19 +12,17 @@ use lib.Dec.{leb}
 use lib.ListN.{length, get_or}
 use Rattle.capacities.specs.Capacities.{column, columns, capacities_of, capacity-in}
 use Rattle.head.specs.Reads.{HeadJob, head_in, rest_in}
-use Rattle.head.specs.Told.{head_job, head_told, head_holds, Holds, read_by}
+use Rattle.head.specs.Told.{head_job, Holds, read_by}
 use Rattle.head.specs.declared.Head.{Head}
-use Rattle.head.specs.declared.HeadRead.{HeadRead}
-use Rattle.head.specs.declared.HeadRead.TheVariants.{Head as headed, Refused as Unheaded}
 use Rattle.layout.specs.Areas.{loads_at, demand_at, areas_end, edge-room}
 use Rattle.layout.specs.Dirs.{dirs_of}
-use Rattle.layout.specs.Shapes.{shape_of, Shaped}
+use Rattle.layout.specs.Shapes.{ShapeOf, Shaped}
 use Rattle.layout.specs.Table.{table_size, vias_column}
-use Rattle.layout.specs.declared.Shape.{Shape}
+use Rattle.layout.specs.declared.shape.Shape.{Shape}
 use Rattle.lines.specs.Told.{refused_by}
 use Rattle.model.specs.Job.{Net, Job, net_count, no_net}
 use Rattle.model.specs.Limits.{most_text}
-use Rattle.model.specs.Read.{Place, found, next, Lent, working_need, read}
+use Rattle.model.specs.Read.{Place, found, Lent, working_need, read}
 use Rattle.net.specs.SoFar.{Capacities}
 use Rattle.net.specs.Table.{Row, PinTiles, Marks, mark-stays}
 use Rattle.text.specs.Refusals.{place_of}
@@ -36,9 +35,6 @@ use Rattle.theory.specs.links.Stretches.{offset}
 use Rattle.nets.specs.Nets.{SoRead, CountsCleared, NetsReady, entries_of}
 use Rattle.nets.specs.Rows.{RowAt}
 use Rattle.reader.specs.Whole.{lent_by, job_of, RestFound, RestTold, HeadFound, JobFound, JobTold}
-use Rattle.reader.specs.declared.JobRead.{JobRead}
-use Rattle.reader.specs.declared.JobRead.TheVariants.{Job as accepted, Refused}
-use Rattle.reader.specs.declared.PrintRoom.{PrintRoom}
 
 -- a head is read only from a text that is not too long
 pub text-fits : (size working order : ℕ) (p q : Place) (h : HeadJob) → head_in size working order p ≡ found h q → size ≤ most_text
@@ -66,63 +62,48 @@ columns-same k n w v h l (suc m) b =
 capacities-same : (g : Shape) (w v : List ℕ) → ((i : ℕ) → i < loads_at g → get_or v i 0 ≡ get_or w i 0) → capacities_of g v ≡ capacities_of g w
 capacities-same g w v h = columns-same g.k g.e w v (λ i b. h i (omega (arith, mul_comm g.e g.k))) 0 g.k (omega arith)
 
-shape_is : (g : Shape) → Shaped g → g ≡ shape_of g.w g.h g.k g.dirs
-shape_is g shaped i = record {
-  w = g.w;
-  h = g.h;
-  k = g.k;
-  t = shaped.t_is i;
-  m = (shaped.m_is ∙ shaped.t_is) i;
-  east = shaped.east_is i;
-  e = shaped.e_is i;
-  dirs = g.dirs;
-}
+shape_is : (g : Shape) → ShapeOf g.w g.h g.k g.dirs g
+shape_is g = record { width = refl; height = refl; layers = refl; dirs = refl }
 
 -- ---- the head
 
-module _ (s : List ℕ) (order : ℕ) (w : List ℕ) (w₁ : List ℕ) (r : HeadRead)
-    (told : head_told s w₁ r ≡ head_in (length s) (length w) order (record { line = 0; rest = s })) where
-  pub no-head : (f : Refusal) → r ≡ Unheaded f → (answer : ℕ) (print : PrintRoom) → read (lent_by (length w) order answer print) s ≡ refused_by f
-  no-head f e answer print =
-      let lent = lent_by (length w) order answer print in
-      read_by lent s w₁ r told ∙ ap (λ (x : HeadRead). next (head_told s w₁ x) (rest_in lent)) e
+module _ (s : List ℕ) (order : ℕ) (w : List ℕ) (w₁ : List ℕ) where
+  pub no-head : (f : Refusal) → refused_by f ≡ head_in (length s) (length w) order (record { line = 0; rest = s })
+      → (answer : ℕ) (print : Maybe ℕ) → read (lent_by (length w) order answer print) s ≡ refused_by f
+  no-head f told answer print = read_by (lent_by (length w) order answer print) s w₁ (Err f) told
 
-  module _ (h : Head) (c : Cursor) (e : r ≡ headed h c) (holds : head_holds (length s) order w w₁ r) (long : length w₁ ≡ length w) where
-    pub head-holds : Holds (length s) order w w₁ h c
-    head-holds = subst (λ (x : HeadRead). head_holds (length s) order w w₁ x) e holds
-
+  module _ (h : Head) (c : Cursor) (told : found (head_job h w₁) (place_of s c) ≡ head_in (length s) (length w) order (record { line = 0; rest = s }))
+      (holds : Holds (length s) order w w₁ h c) (long : length w₁ ≡ length w) where
     short-text : length s ≤ 1048576
-    short-text =
-        text-fits (length s) (length w) order (record { line = 0; rest = s }) (place_of s c) (head_job h w₁) (sym told ∙ ap (head_told s w₁) e)
+    short-text = text-fits (length s) (length w) order (record { line = 0; rest = s }) (place_of s c) (head_job h w₁) (sym told)
 
     -- the need is that of the places in the working numbers, and more
     need-is : working_need h.shape.w h.shape.h h.shape.k ≡ demand_at h.shape + 2 * h.shape.e + 32 * h.shape.t
     need-is =
         let g = h.shape in
         let u : 2 * g.k * g.e ≡ 2 * (g.k * g.e) = omega arith in
-        rw (sym head-holds.shaped.t_is, sym head-holds.shaped.e_is, u)
+        rw (sym holds.shaped.t_is, sym holds.shaped.e_is, u)
 
     pub areas-fit : areas_end h.shape ≤ length w₁
-    areas-fit = omega (arith, need-is, head-holds.working, head-holds.shaped.m_is)
+    areas-fit = omega (arith, need-is, holds.working, holds.shaped.m_is)
 
     -- the working numbers v, with zeros in what the nets are counted and marked in
     module _ (v : List ℕ) (cleared : CountsCleared h.shape w₁ v) where
       -- the capacities are those of the head
-      read-on : (answer : ℕ) (print : PrintRoom) → read (lent_by (length w) order answer print) s ≡ rest_in (lent_by (length w) order answer print) (head_job h v) (place_of s c)
+      read-on : (answer : ℕ) (print : Maybe ℕ) → read (lent_by (length w) order answer print) s ≡ rest_in (lent_by (length w) order answer print) (head_job h v) (place_of s c)
       read-on answer print =
           let lent = lent_by (length w) order answer print in
-          read_by lent s w₁ r told
-          ∙ ap (λ (x : HeadRead). next (head_told s w₁ x) (rest_in lent)) e
-          ∙ ap (λ (cs : List (List ℕ)). rest_in lent (record { width = h.shape.w; height = h.shape.h; layers = h.shape.k; dirs = dirs_of h.shape.k h.shape.dirs; alpha = h.alpha; beta = h.beta; gamma = h.gamma; capacities = cs; nets = h.nets }) (place_of s c))
+          read_by lent s w₁ (Ok (h, c)) told
+          ∙ ap (λ (cs : List (List ℕ)). rest_in lent (record { width = h.shape.w; height = h.shape.h; layers = h.shape.k; dirs = dirs_of h.shape.k h.shape.dirs; alpha = h.weights.alpha; beta = h.weights.beta; gamma = h.weights.gamma; capacities = cs; nets = h.nets }) (place_of s c))
           (sym (capacities-same h.shape w₁ v cleared.low))
 
       pub head-found : HeadFound s (length w) order v h c
       head-found = record {
         is = read-on;
-        shaped = head-holds.shaped;
-        nets = head-holds.nets;
-        place = head-holds.place;
-        lines = omega (arith, head-holds.lines, head-holds.shaped.k_most, option-few (dirs_of h.shape.k h.shape.dirs));
+        shaped = holds.shaped;
+        nets = holds.nets;
+        place = holds.place;
+        lines = omega (arith, holds.lines, holds.shaped.k_most, option-few (dirs_of h.shape.k h.shape.dirs));
         short = short-text;
         room = omega (arith, areas-fit, cleared.long);
         counts = cleared.counts;
@@ -135,7 +116,7 @@ module _ (s : List ℕ) (working order : ℕ) (v : List ℕ) (h : Head) (c : Cur
   pub nets-may-start : (table : List ℕ) → table_size ≤ length table → NetsReady h.shape v table
   nets-may-start table t = record { room = omega (arith, head.room); demands = λ k a b. head.counts k (omega arith) b; kept = head.kept; table_long = t }
 
-  module _ (answer : ℕ) (print : PrintRoom) (w₂ table : List ℕ) where
+  module _ (answer : ℕ) (print : Maybe ℕ) (w₂ table : List ℕ) where
     abbrev lent : Lent
     lent = lent_by working order answer print
 
@@ -179,7 +160,7 @@ module _ (s : List ℕ) (working order : ℕ) (v : List ℕ) (h : Head) (c : Cur
         place = found-rest.place;
         is = head.is answer print ∙ found-rest.is working order;
         checked = record {
-          shape = shape_is h.shape head.shaped;
+          shape = shape_is h.shape;
           dirs = refl;
           shaped = head.shaped;
           room = omega (arith, head.room, so.long);
@@ -198,6 +179,6 @@ module _ (s : List ℕ) (working order : ℕ) (v : List ℕ) (h : Head) (c : Cur
         nets = sym found-rest.count;
       }
 
-    pub job-told : (a : JobRead) → RestTold s h answer print (place_of s c) v w₂ table a → JobTold s (lent_by working order answer print) w₂ table a
-    job-told (Refused f) t = head.is answer print ∙ t working order
-    job-told (accepted k) t = subst (λ (x : Head). JobFound s lent w₂ table x) (sym t.0) (job-found t.1)
+    pub job-told : (a : Outcome Head Refusal) → RestTold s h answer print (place_of s c) v w₂ table a → JobTold s (lent_by working order answer print) w₂ table a
+    job-told (Err f) t = head.is answer print ∙ t working order
+    job-told (Ok k) t = subst (λ (x : Head). JobFound s lent w₂ table x) (sym t.0) (job-found t.1)

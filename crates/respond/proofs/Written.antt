@@ -1,5 +1,6 @@
 -- The text that is written is the program's.
 -- Assumes nothing.
+use Rattle.std.specs.Prelude.{Ok, Err, Result as Answer}
 use mathlib.Core.List.{List}
 use mathlib.Core.Option.{some}
 use mathlib.Core.Path.{◌≡◌, sym, ap, ap₂, ◌∙◌}
@@ -11,8 +12,6 @@ use lib.Seq.{sets}
 use Rattle.model.specs.Calls.{refusal, outcome, overwrite, print_lent}
 use Rattle.model.specs.Program.{program_lent, written, program}
 use Rattle.model.specs.Read.{Lent}
-use Rattle.planning.specs.declared.Printed.{Printed}
-use Rattle.planning.specs.declared.Printed.TheVariants.{Print, Refused}
 use Rattle.planning.specs.declared.Totals.{Totals}
 use Rattle.print.specs.Refusal.{refusal-most}
 use Rattle.put.specs.Wrote.{sets-overwrite}
@@ -55,13 +54,13 @@ module _ (input out : List ℕ) (size : length out ≡ 65536) (short : length in
   program-is : program input ≡ written (outcome (print_lent program_buffers out) input)
   program-is = rw (le-leb (length input) 65536 short) (ap (λ (l : Lent). written (outcome l input)) (sym lent_is))
 
-  module _ (out' : List ℕ) (r : Printed) (a : Answered input out out' r) where
-    pub program-refused : (f : Refusal) → r ≡ Refused f → (program input ≡ written (refusal (number_of f) (line_of f))) × (out' ≡ out)
+  module _ (out' : List ℕ) (r : Answer (Totals × ℕ) Refusal) (a : Answered input out out' r) where
+    pub program-refused : (f : Refusal) → r ≡ Err f → (program input ≡ written (refusal (number_of f) (line_of f))) × (out' ≡ out)
     program-refused f e =
         let k = refused-told input program_buffers out a.left out' r a.told f e in
         (program-is ∙ ap written k.0, k.1)
 
-    pub program-printed : (t : Totals) (n : ℕ) → r ≡ Print t n → (out' ≡ overwrite (program input) out) × (n ≡ length (program input))
+    pub program-printed : (t : Totals) (n : ℕ) → r ≡ Ok (t, n) → (out' ≡ overwrite (program input) out) × (n ≡ length (program input))
     program-printed t n e =
         let k = printed-told input program_buffers out a.left out' r a.told t n e in
         (k.0 ∙ ap (λ (l : List ℕ). overwrite l out) (sym program-is), k.1 ∙ ap length (sym program-is))

@@ -7,7 +7,7 @@ ghost use Rattle.model.specs.Program.{written, program};
 ghost use Rattle.respond.specs.Told.{Answered};
 ghost use Rattle.text.specs.Refusals.{number_of, line_of};
 
-use planning::Printed;
+use planning::Totals;
 use sort::Entry;
 use text::Refusal;
 
@@ -24,7 +24,7 @@ const ANSWER: usize = 65536;
 pub const PRINT: usize = 65536;
 
 // Print of an input, over the storage that the program lends.
-fn print_input(input: &[u8], out: &mut [u8]) -> Printed
+fn print_input(input: &[u8], out: &mut [u8]) -> Result<(Totals, usize), Refusal>
     ensures { Answered input.now out.old out.new result }
 {
     let mut work = [0u32; WORKING];
@@ -43,8 +43,8 @@ fn refuse(out: &mut [u8], r: Refusal) -> usize
     ensures out_after { out.new ≡ overwrite (written (refusal (number_of r) (line_of r))) out.old }
     ensures value { result ≡ length (written (refusal (number_of r) (line_of r))) }
 {
-    let number = text::number_of(r);
-    let line = text::line_of(r);
+    let number = r.number();
+    let line = r.line();
     print::put_refusal(out, number, line)
 }
 
@@ -58,7 +58,7 @@ pub fn respond(input: &[u8], out: &mut [u8; PRINT]) -> usize
         return refuse(out, Refusal::TooLong);
     }
     match print_input(input, out) {
-        Printed::Refused(r) => refuse(out, r),
-        Printed::Print(_, size) => size,
+        Ok((_, size)) => size,
+        Err(r) => refuse(out, r),
     }
 }

@@ -1,14 +1,16 @@
 -- A number at a place of the text, and the byte after it, against the definitions' reading of the line.
 -- Assumes nothing.
 use Rattle.std.specs.Prelude.{◌≡◌, refl, false, List, [], ◌∷◌, ◌++◌, ℕ, ◌+◌, ◌<◌, length, drop, get_or}
-use Rattle.std.proofs.Common.{sym, ◌∙◌, append-nil, add-zero, add-one, drop-drop, drop-cons, get_or-drop, arith}
+use Rattle.std.proofs.Common.{sym, ap, ◌∙◌, append-nil, add-zero, add-one, drop-drop, drop-cons, get_or-drop, arith}
 use Rattle.std.proofs.Math.Option.{Option, none, some}
 use Rattle.std.proofs.Math.ListN.{get_or-eq_default}
 use Rattle.std.proofs.Math.Decide.{ℕ_discrete, dec_lt}
 use Rattle.model.specs.Text.{on_first, is_digit, number}
 pub use Rattle.text.specs.Number.{run}
-use Rattle.text.specs.Number.{numbered, number_at}
-use Rattle.text.specs.declared.Numeral.TheVariants.{Value, Malformed}
+use Rattle.std.specs.Prelude.{Some, None}
+use Rattle.std.proofs.lemmas.Option.{same_Some}
+use Rattle.text.specs.Number.{numeral, numbered, number_at}
+use Rattle.text.specs.declared.Numeral.{Numeral}
 use Rattle.scan.specs.Lines.{Judge, line_of, cons_to, one_to, line-ext, line_other, line-comma, line-semicolon, line-newline, line-none, prepend, undigits, line-run, NoDigit, undigits-no, undigits-drop, no_number}
 
 -- a judge that takes only entries that begin with a number
@@ -65,26 +67,25 @@ module _ (f g : Judge) (ds : List ℕ) where
 
 -- ---- a number at a place
 
-not-value : (v n : ℕ) → Malformed ≡ Value v n → ⊥
-not-value v n e = let y : ◌≡◌ {A = ℕ} 0 1 = cc in omega arith
-
 pub number-at : (s : List ℕ) (at : ℕ) → number_at s at ≡ numbered (at + length (run s at)) (number (run s at))
 unfolding number_at
 number-at s at = refl
 
-pub number_is : (s : List ℕ) (at v n : ℕ) → number_at s at ≡ Value v n → (number (run s at) ≡ some v) × (n ≡ at + length (run s at))
+pub number_is : (s : List ℕ) (at v n : ℕ) → number_at s at ≡ Some (numeral v n) → (number (run s at) ≡ some v) × (n ≡ at + length (run s at))
 number_is s at v n e = go (number (run s at)) (sym (number-at s at) ∙ e)
   where
-    go : (x : Option ℕ) → numbered (at + length (run s at)) x ≡ Value v n → (x ≡ some v) × (n ≡ at + length (run s at))
-    go none h = absurd (not-value v n h)
-    go (some w) h = (cc, cc)
+    go : (x : Option ℕ) → numbered (at + length (run s at)) x ≡ Some (numeral v n) → (x ≡ some v) × (n ≡ at + length (run s at))
+    go none h = cc
+    go (some w) h =
+        let k = same_Some (numeral w (at + length (run s at))) (numeral v n) h in
+        (ap (λ (m : Numeral). some m.value) k, sym (ap (λ (m : Numeral). m.next) k))
 
-pub number-not : (s : List ℕ) (at : ℕ) → number_at s at ≡ Malformed → number (run s at) ≡ none
+pub number-not : (s : List ℕ) (at : ℕ) → number_at s at ≡ None → number (run s at) ≡ none
 number-not s at e = go (number (run s at)) (sym (number-at s at) ∙ e)
   where
-    go : (x : Option ℕ) → numbered (at + length (run s at)) x ≡ Malformed → x ≡ none
+    go : (x : Option ℕ) → numbered (at + length (run s at)) x ≡ None → x ≡ none
     go none h = refl
-    go (some w) h = absurd (not-value w (at + length (run s at)) (sym h))
+    go (some w) h = cc
 
 -- ---- the line from a place on
 
@@ -111,7 +112,7 @@ drop-byte s n b e h = drop-cons s n 0 (get_d-in s n b e h) ∙ rw (e, add-one)
 pub head-drop : (s : List ℕ) (n : ℕ) → get_or (drop n s) 0 0 ≡ get_or s n 0
 head-drop s n = get_or-drop n s 0 0 ∙ rw (add-zero n)
 
-module _ (f g : Judge) (s : List ℕ) (at v n : ℕ) (e : number_at s at ≡ Value v n) where
+module _ (f g : Judge) (s : List ℕ) (at v n : ℕ) (e : number_at s at ≡ Some (numeral v n)) where
   at_n : line_of f g (drop at s) ≡ line_of (λ ps. f (prepend (run s at) ps)) g (drop n s)
   at_n = line_at f g s at ∙ rw (sym (number_is s at v n e).1)
 
@@ -133,5 +134,5 @@ module _ (f g : Judge) (s : List ℕ) (at v n : ℕ) (e : number_at s at ≡ Val
   pub then-no-break : Begins f → ((p q : List ℕ) (ps : List (List ℕ)) → f (p ∷ q ∷ ps) ≡ none) → (get_or s n 0 ≡ 59 → ⊥) → (get_or s n 0 ≡ 10 → ⊥) → line_of f g (drop at s) ≡ none
   then-no-break b more h k = at_n ∙ stop-not-break f g (run s at) b more (drop n s) bare (λ q. h (sym (head-drop s n) ∙ q)) (λ q. k (sym (head-drop s n) ∙ q))
 
-pub then-bad : (f g : Judge) (s : List ℕ) (at : ℕ) → number_at s at ≡ Malformed → Begins f → line_of f g (drop at s) ≡ none
+pub then-bad : (f g : Judge) (s : List ℕ) (at : ℕ) → number_at s at ≡ None → Begins f → line_of f g (drop at s) ≡ none
 then-bad f g s at e b = line_at f g s at ∙ stop-bad f g (run s at) b (number-not s at e) (drop (at + length (run s at)) s) (no_digit s at)

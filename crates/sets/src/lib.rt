@@ -54,32 +54,39 @@ const CHART: [[u8; 16]; 16] = [
 ];
 
 // Writes row r of the chart.
-fn fill_row(chart: &mut [u32; 256], row: [u8; 16], r: usize)
-    requires { (r < 16) × (length chart.old ≡ 256) }
-    ensures { Rowed row r 16 chart.old chart.new }
+fn fill_row(spans: &mut [u32; 256], row: [u8; 16], r: usize)
+    requires { (r < 16) × (length spans.old ≡ 256) }
+    ensures { Rowed row r 16 spans.old spans.new }
 {
     for i in 0..16 {
-        chart[16 * r + i] = row[i] as u32;
+        spans[16 * r + i] = row[i] as u32;
     }
 }
 
-// Fills the chart: the vias of every set of layers, by mask. Once in a call, which then lends it to all that ask for the vias of a set.
-pub fn fill_chart(chart: &mut [u32; 256])
-    requires { length chart.old ≡ 256 }
-    ensures { Charted span_of chart.new }
-{
-    let rows = CHART;
-    for r in 0..16 {
-        fill_row(chart, rows[r], r);
-    }
+// The chart by mask: it has the vias of every set of layers.
+#[derive(Drop)]
+pub struct Chart {
+    spans: [u32; 256],
+    ghost charted: { Charted span_of spans },
 }
 
-// The vias of a set, from the lent chart.
-pub fn span(chart: &[u32; 256], mask: u32) -> u32
-    requires charted { Charted span_of chart.now }
-    requires mask_bound { mask < 256 }
-    ensures value { result ≡ span_of mask }
-    ensures upper_bound { result ≤ 7 }
-{
-    chart[mask as usize]
+impl Chart {
+    // Filled once in a call, which then lends it to all that ask for the vias of a set.
+    pub fn new() -> Chart {
+        let rows = CHART;
+        let mut spans = [0u32; 256];
+        for r in 0..16 {
+            fill_row(&mut spans, rows[r], r);
+        }
+        Chart { spans }
+    }
+
+    // The vias of a set.
+    pub fn span(&self, mask: u32) -> u32
+        requires { mask < 256 }
+        ensures value { result ≡ span_of mask }
+        ensures upper_bound { result ≤ 7 }
+    {
+        self.spans[mask as usize]
+    }
 }

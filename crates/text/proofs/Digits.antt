@@ -3,18 +3,18 @@ use mathlib.Core.Path.{◌≡◌, refl, sym, ap, ◌∙◌}
 use mathlib.Core.List.{List, [], ◌∷◌}
 use mathlib.Core.Option.{none, some}
 use mathlib.Core.Bool.{Bool, true, false, cond, not, ◌&&◌, ◌||◌}
-use Prim.Native.Nat.{ℕ, zero, suc, ◌+◌, ◌-◌, ◌*◌, ◌^◌, ◌≤◌, ◌<◌}
+use Prim.Native.Nat.{ℕ, zero, suc, ◌+◌, ◌-◌, ◌≤◌, ◌<◌}
 use native.Mathlib.Numerals.{add-one}
-use native.Mathlib.Nat.{pow-le-pow_right, pow-suc, add-zero, zero-add, suc-add}
+use native.Mathlib.Nat.{add-zero, zero-add, suc-add}
 use native.Mathlib.Omega.{arith}
 use lib.ListN.{length, get_or, take, drop, drop_of_length-le, length-take, length-drop}
-use lib.Seq.{slice, slice-cons, drop-cons, take-nil, get_or-take, get_or-drop}
+use lib.Seq.{slice, drop-cons, take-nil, get_or-take, get_or-drop}
 use borrow.Author.Tests.{le-leb, lt-leb, eq-eqb, ne_eqb, eqb-true}
-use Rattle.text.specs.declared.Numeral.TheVariants.{Value, Malformed}
-use lib.Dec.{lit<, eqb, leb}
+use Rattle.std.specs.Prelude.{Some, None}
+use lib.Dec.{eqb, leb}
 use Rattle.model.specs.Text.{is_digit, is_number, value_from}
 use Rattle.model.specs.Lists.{all}
-use Rattle.text.specs.Number.{digit_run, run, numbered, number_at}
+use Rattle.text.specs.Number.{numeral, digit_run, run, numbered, number_at}
 
 module _ (s : List ℕ) (i : ℕ) where
   pub digits_more : i < length s → is_digit (get_or s i 0) ≡ true → digit_run (drop i s) ≡ get_or s i 0 ∷ digit_run (drop (i + 1) s)
@@ -28,27 +28,6 @@ module _ (s : List ℕ) (i : ℕ) where
   pub digits-end : length s ≤ i → digit_run (drop i s) ≡ []
   unfolding digit_run
   digits-end h = rw drop_of_length-le
-
--- one is_digit more is read
-pub value-step : (s : List ℕ) (v i end : ℕ) → i < end → end ≤ length s → value_from v (slice i end s) ≡ value_from (10 * v + (get_or s i 0 - 48)) (slice (i + 1) end s)
-value-step s v i end h k = rw (slice-cons i end s 0, add-one)
-
-slice-none : (f t : ℕ) (l : List ℕ) → t ≤ f → slice f t l ≡ []
-slice-none f t l h = drop_of_length-le (take t l) {i = f} (omega (arith, length-take t l))
-
-pub value-done : (s : List ℕ) (v i end : ℕ) → end ≤ i → value_from v (slice i end s) ≡ v
-value-done s v i end h = rw (slice-none i end s)
-
--- what k bytes spell is small enough
-pub grow : (v d at i : ℕ) → at ≤ i → v + 23 ≤ 23 * 10 ^ (i - at) → d ≤ 207 → 10 * v + d + 23 ≤ 23 * 10 ^ (i + 1 - at)
-grow v d at i l h g =
-    let e : i + 1 - at ≡ suc (i - at) = omega arith in
-    rw (e, pow-suc) (omega arith)
-
-pub small : (v at i : ℕ) → v + 23 ≤ 23 * 10 ^ (i - at) → i < at + 5 → v ≤ 230000
-small v at i h g =
-    let k : i - at ≤ 4 = omega arith in
-    let p : 10 ^ (i - at) ≤ 10 ^ 4 = pow-le-pow_right (lit< tt) k in omega arith
 
 -- the run of digits is the start of the text
 after : (d : Bool) (b : ℕ) (ds rest : List ℕ) → take (length ds) rest ≡ ds → take (length (cond d (b ∷ ds) [])) (b ∷ rest) ≡ cond d (b ∷ ds) []
@@ -64,6 +43,11 @@ slice-take : (f n : ℕ) (l : List ℕ) → slice f (f + n) l ≡ take n (drop f
 slice-take zero n l = rw zero-add
 slice-take (suc f) n [] = rw (suc-add, take-nil)
 slice-take (suc f) n (x ∷ l) = rw suc-add (slice-take f n l)
+
+pub slice_is : (at end : ℕ) (s : List ℕ) → at ≤ end → slice at end s ≡ take (end - at) (drop at s)
+slice_is at end s h =
+    let e : at + (end - at) ≡ end = omega arith in
+    ap (λ (k : ℕ). slice at k s) (sym e) ∙ slice-take at (end - at) s
 
 -- what `is_number` asks of digits: one to five, and no 0 in front of others
 well_formed : List ℕ → Bool
@@ -98,12 +82,12 @@ formed (b ∷ c ∷ bs) e =
     go false false = refl
 
 number_by : (s : List ℕ) (at : ℕ) (q : Bool) → well_formed (run s at) ≡ q
-    → number_at s at ≡ cond q (Value (value_from 0 (run s at)) (at + length (run s at))) Malformed
+    → number_at s at ≡ cond q (Some (numeral (value_from 0 (run s at)) (at + length (run s at)))) None
 unfolding number_at
 number_by s at q e = rw (formed (run s at) (all_digits (drop at s)), e) (go q)
   where
     go : (q : Bool) → numbered (at + length (run s at)) (cond q (some (value_from 0 (run s at))) none)
-        ≡ cond q (Value (value_from 0 (run s at)) (at + length (run s at))) Malformed
+        ≡ cond q (Some (numeral (value_from 0 (run s at)) (at + length (run s at)))) None
     go true = refl
     go false = refl
 
@@ -125,21 +109,21 @@ module _ (s : List ℕ) (at end : ℕ) (e : end ≡ at + length (digit_run (drop
       ap (λ (l : List ℕ). get_or l 0 0) (sym (digits-take (drop at s))) ∙ get_or-take (length (digit_run (drop at s))) (drop at s) 0 0 p
       ∙ get_or-drop at s 0 0 ∙ ap (λ (k : ℕ). get_or s k 0) (add-zero at)
 
-  pub few : end - at < 1 → Malformed ≡ number_at s at
+  pub few : end - at < 1 → None ≡ number_at s at
   unfolding well_formed
   few h = sym (number_by s at false shape)
     where
       shape : well_formed (run s at) ≡ false
       shape = rw (lt-leb 1 (length (digit_run (drop at s))) (omega arith))
 
-  pub many : 5 < end - at → Malformed ≡ number_at s at
+  pub many : 5 < end - at → None ≡ number_at s at
   unfolding well_formed
   many h = sym (number_by s at false shape)
     where
       shape : well_formed (run s at) ≡ false
       shape = rw (le-leb 1 (length (digit_run (drop at s))) (omega arith), lt-leb (length (digit_run (drop at s))) 5 (omega arith))
 
-  pub padded : 1 ≤ end - at → end - at ≤ 5 → (end - at ≡ 1 → ⊥) → get_or s at 0 ≡ 48 → Malformed ≡ number_at s at
+  pub padded : 1 ≤ end - at → end - at ≤ 5 → (end - at ≡ 1 → ⊥) → get_or s at 0 ≡ 48 → None ≡ number_at s at
   unfolding well_formed
   padded h l k b = sym (number_by s at false shape)
     where
@@ -148,11 +132,11 @@ module _ (s : List ℕ) (at end : ℕ) (e : end ≡ at + length (digit_run (drop
           let n = length (digit_run (drop at s)) in
           rw (le-leb 1 n (omega arith), le-leb n 5 (omega arith), first h, b, ne_eqb n 1 (λ q. k (omega arith)))
 
-  pub good : (v : ℕ) → 1 ≤ end - at → end - at ≤ 5 → (get_or s at 0 ≡ 48 → end - at ≡ 1) → v ≡ value_from 0 (slice at end s) → Value v end ≡ number_at s at
+  pub good : (v : ℕ) → 1 ≤ end - at → end - at ≤ 5 → (get_or s at 0 ≡ 48 → end - at ≡ 1) → v ≡ value_from 0 (slice at end s) → Some (numeral v end) ≡ number_at s at
   unfolding well_formed
   good v h l b q =
       let ds : slice at end s ≡ digit_run (drop at s) = ap (λ (k : ℕ). slice at k s) e ∙ slice-take at (length (digit_run (drop at s))) s ∙ digits-take (drop at s) in
-      (λ i. Value ((q ∙ ap (value_from 0) ds) i) (e i)) ∙ sym (number_by s at true shape)
+      (λ i. Some (numeral ((q ∙ ap (value_from 0) ds) i) (e i))) ∙ sym (number_by s at true shape)
     where
       shape : well_formed (run s at) ≡ true
       shape =

@@ -1,4 +1,4 @@
 mod Digits
 mod Prefix
-mod Commas
+mod Ends
 mod Spelt

@@ -6,7 +6,7 @@ use Prim.Native.Nat.{ℕ, ◌+◌, ◌-◌, ◌*◌, ◌^◌, ◌≤◌, ◌<◌
 use native.Mathlib.Omega.{arith}
 use lib.ListN.{get_or, set}
 use Rattle.layout.specs.Areas.{loads_at, demand_at}
-use Rattle.layout.specs.declared.Shape.{Shape}
+use Rattle.layout.specs.declared.shape.Shape.{Shape}
 use Rattle.model.specs.Limits.{most_nets}
 use Rattle.tracks.specs.Legal.{room_of, room_most, open_in, legal_mask, mask-small}
 use Rattle.tracks.specs.Masks.{bits_up}

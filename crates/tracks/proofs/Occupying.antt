@@ -8,7 +8,7 @@ use lib.ListN.{length, get_or}
 use lib.Seq.{drop-cons}
 use Rattle.layout.specs.Areas.{flat_at, above_at}
 use Rattle.layout.specs.Parts.{part}
-use Rattle.layout.specs.declared.Shape.{Shape}
+use Rattle.layout.specs.declared.shape.Shape.{Shape}
 use Rattle.tracks.specs.Occupied.{occupied}
 use Rattle.tracks.specs.OccupiedAll.{layers_at, edges_of, layers_in, occupied_all, Takes, CanTake, takes-kept, occupied-outside}
 

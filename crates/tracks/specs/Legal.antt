@@ -5,7 +5,7 @@ use Rattle.std.proofs.Common.{sym, ◌∙◌, subst, ltb-true, ltb-false, le-ltb
 use Rattle.std.proofs.Math.Path.{ap}
 use native.Mathlib.Omega.{arith}
 use Rattle.layout.specs.Areas.{loads_at, demand_at}
-use Rattle.layout.specs.declared.Shape.{Shape}
+use Rattle.layout.specs.declared.shape.Shape.{Shape}
 use Rattle.marks.specs.Words.{bit_of}
 use Rattle.model.specs.Job.{Job, runs, group, layers_of, capacity}
 use Rattle.model.specs.Legal.{is_legal}

@@ -6,7 +6,7 @@ use Rattle.std.proofs.Math.Path.{fun_ext}
 use Rattle.std.proofs.Math.ListN.{length-set}
 use Rattle.std.proofs.Math.Seq.{get_or-set_same, get_or-set_other}
 use Rattle.layout.specs.Areas.{loads_at, demand_at}
-use Rattle.layout.specs.declared.Shape.{Shape}
+use Rattle.layout.specs.declared.shape.Shape.{Shape}
 use Rattle.model.specs.Job.{Job, runs, group, layers_of, capacity}
 use Rattle.model.specs.Legal.{sum_over, put}
 use Rattle.model.specs.Limits.{most_nets}

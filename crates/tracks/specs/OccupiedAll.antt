@@ -5,7 +5,7 @@ use Rattle.std.proofs.Common.{inl, sym, subst, arith}
 use Rattle.std.proofs.Math.Path.{fun_ext}
 use Rattle.layout.specs.Areas.{loads_at, demand_at, flat_at, above_at, engine_at}
 use Rattle.layout.specs.Parts.{part, Outside, outside-then, outside-same}
-use Rattle.layout.specs.declared.Shape.{Shape}
+use Rattle.layout.specs.declared.shape.Shape.{Shape}
 use Rattle.model.specs.Job.{Job, runs, group, layers_of, capacity}
 use Rattle.model.specs.Limits.{most_nets}
 use Rattle.model.specs.Lists.{same, occurs, In}

@@ -1,14 +1,13 @@
 -- Layers that run the other way are closed before the first turn. Document 02, S-2.
 -- Assumes nothing.
-use Rattle.std.specs.Prelude.{Bool, true, false, cond, List, ◌≡◌, refl, ℕ, suc, ◌+◌, ◌-◌, ◌*◌, ◌≤◌, ◌<◌, ltb, get_or}
+use Rattle.std.specs.Prelude.{Bool, true, false, cond, List, ◌≡◌, refl, ℕ, suc, ◌+◌, ◌-◌, ◌*◌, ◌≤◌, ◌<◌, ltb, get_or, Some, None, is_some, Option as Maybe}
 use Rattle.std.proofs.Common.{⊎_elim, sym, ap, ◌∙◌, subst, mul-le-mul_right, add-mul, arith, lt-ltb, le-ltb}
 use Rattle.layout.specs.Areas.{loads_at, edge-room}
 use Rattle.layout.specs.Dirs.{dirs_of}
 use Rattle.layout.specs.Fill.{Filled}
 use Rattle.layout.specs.Parts.{Outside, outside-same, outside_wider, outside-then}
-use Rattle.layout.specs.declared.Dirs.{Dirs}
-use Rattle.layout.specs.declared.Dirs.TheVariants.{Any, Given}
-use Rattle.layout.specs.declared.Shape.{Shape}
+use Rattle.layout.specs.declared.shape.Dirs.{Dirs}
+use Rattle.layout.specs.declared.shape.Shape.{Shape}
 use Rattle.model.specs.Grid.{east_count}
 use Rattle.model.specs.Job.{Job, group_in, runs, group}
 use Rattle.net.specs.SoFar.{closed_load}
@@ -23,7 +22,7 @@ abbrev pub shut_at : Shape → ℕ → List ℕ → ℕ → ℕ → ℕ
 shut_at g way w e l = cond (runs (dirs_of g.k g.dirs) way (l + 1)) (get_or w (row_at g e + l) 0) closed_load
 
 -- the same of n layers whose nets stand from `at` on
-abbrev pub shut_from : ℕ → Dirs → ℕ → List ℕ → ℕ → ℕ → ℕ
+abbrev pub shut_from : ℕ → Maybe Dirs → ℕ → List ℕ → ℕ → ℕ → ℕ
 shut_from k d way w at l = cond (runs (dirs_of k d) way (l + 1)) (get_or w (at + l) 0) closed_load
 
 pub shut_row : (g : Shape) (way : ℕ) (w w' : List ℕ) (e at n : ℕ) → at ≡ row_at g e → n ≡ g.k → Filled at n (shut_from g.k g.dirs way w at) w w'
@@ -74,11 +73,20 @@ pub record Closed (g : Shape) (w w' : List ℕ) : Type 0 where
   pub each : (e l : ℕ) → e < g.e → l < g.k → get_or w' (row_at g e + l) 0 ≡ shut_at g (group_in (dirs_of g.k g.dirs) g.east e) w e l
   pub outside : Outside (loads_at g) (loads_at g) w w'
 
--- a job that says nothing of directions has no layer closed
-pub closed-any : (g : Shape) (w : List ℕ) → g.dirs ≡ Any → Closed g w w
-closed-any g w e = record { each = λ a l h b. rw e refl; outside = outside-same (loads_at g) (loads_at g) w }
+none-there : (d : Maybe Dirs) → is_some d ≡ false → d ≡ None
+none-there None n = refl
+none-there (Some d) n = cc
 
-module _ (g : Shape) (m : ℕ) (given : g.dirs ≡ Given m) (few : g.east ≤ g.e) (w w' w'' : List ℕ) (east : Shut g 0 g.east 0 w w') (north : Shut g g.east g.e 1 w' w'') where
+-- where directions are given, an edge's group is by where it stands
+group_by : (k east e : ℕ) (d : Maybe Dirs) → is_some d ≡ true → group_in (dirs_of k d) east e ≡ cond (ltb e east) 0 1
+group_by k east e None n = cc
+group_by k east e (Some d) n = refl
+
+-- a job that says nothing of directions has no layer closed
+pub closed-any : (g : Shape) (w : List ℕ) → is_some g.dirs ≡ false → Closed g w w
+closed-any g w n = record { each = λ a l h b. rw (none-there g.dirs n) refl; outside = outside-same (loads_at g) (loads_at g) w }
+
+module _ (g : Shape) (given : is_some g.dirs ≡ true) (few : g.east ≤ g.e) (w w' w'' : List ℕ) (east : Shut g 0 g.east 0 w w') (north : Shut g g.east g.e 1 w' w'') where
   parts : g.east * g.k + (g.e - g.east) * g.k ≡ loads_at g
   parts = sym (add-mul g.east (g.e - g.east) g.k) ∙ (let p : g.east + (g.e - g.east) ≡ g.e = omega arith in rw p (omega arith))
 
@@ -94,7 +102,7 @@ module _ (g : Shape) (m : ℕ) (given : g.dirs ≡ Given m) (few : g.east ≤ g.
       first = ap (λ (n : ℕ). n * g.k) (omega arith)
 
       group-is : (e v : ℕ) (b : Bool) → ltb e g.east ≡ b → cond b 0 1 ≡ v → group_in (dirs_of g.k g.dirs) g.east e ≡ v
-      group-is e v b t u = rw (given, t) u
+      group-is e v b t u = group_by g.k g.east e g.dirs given ∙ rw t u
 
       below : (e l : ℕ) → e < g.east → l < g.k → get_or w'' (row_at g e + l) 0 ≡ shut_at g (group_in (dirs_of g.k g.dirs) g.east e) w e l
       below e l p b =

@@ -4,7 +4,7 @@ use Rattle.std.specs.Prelude.{List, ◌∷◌, ◌≡◌, ℕ, ◌-◌, ◌≤�
 use Rattle.std.proofs.Common.{sym, ◌∙◌, arith}
 use Rattle.std.proofs.Math.Path.{ap}
 use Rattle.layout.specs.Areas.{flat_at}
-use Rattle.layout.specs.declared.Shape.{Shape}
+use Rattle.layout.specs.declared.shape.Shape.{Shape}
 use Rattle.model.specs.Job.{Net, Job, edge_count, net_of}
 use Rattle.model.specs.Lists.{occurs, In}
 use Rattle.model.specs.Overflow.{uses, flat_overflow}

@@ -3,8 +3,8 @@
 
 ghost use Rattle.std.specs.Prelude.{◌≡◌, cond, ℕ, ◌+◌, ◌-◌, ◌*◌, ◌^◌, ◌<◌, ◌≤◌, length, get_or};
 ghost use Rattle.layout.specs.Areas.{demand_at, flat_at, areas_end};
+ghost use Rattle.layout.specs.Dirs.{heading_number};
 ghost use Rattle.layout.specs.Fill.{Filled};
-ghost use Rattle.layout.specs.Shapes.{Shaped};
 ghost use Rattle.model.specs.Limits.{most_layers, most_nets};
 ghost use Rattle.net.specs.Places.{SmallCapacities};
 ghost use Rattle.net.specs.SoFar.{closed_load};
@@ -14,7 +14,7 @@ ghost use Rattle.tracks.specs.Shut.{row_at, shut_at, Shut, Closed};
 ghost use Rattle.tracks.specs.Occupied.{full_of, occupied, Free};
 ghost use Rattle.tracks.specs.OccupiedAll.{edges_of, layers_in, occupied_all, CanTake};
 
-use layout::{Dirs, Shape};
+use layout::{Heading, Shape};
 
 // By how much a layer may pass its capacity: the limit where the edge has overflow left.
 fn room_of(left: u32, limit: u32) -> u32
@@ -54,7 +54,6 @@ fn open_layers(w: &[u32], caps: usize, loads: usize, k: usize, room: u32) -> u32
 
 // The legal layers of an edge: bit l - 1 is layer l. Eight layers go in two fours, loops of a known length that become comparisons of four at once.
 pub fn legal(w: &[u32], g: Shape, edge: usize, limit: u32) -> u32
-    requires shaped { Shaped g }
     requires edge_lt_e { (edge < g.e) × (flat_at g ≤ length w.now) × (limit ≤ most_nets) }
     requires small_capacities { SmallCapacities g w.now }
     ensures value { result ≡ legal_mask g w.now edge limit }
@@ -84,45 +83,39 @@ fn shut(along: bool, load: u32) -> u32
     CLOSED
 }
 
-// Closes the layers of an edge that run the other way, the edge going east (0) or north (1).
-fn close_edge(w: &mut [u32], g: Shape, edge: usize, way: u32)
-    requires shaped { Shaped g }
+// Closes the layers of an edge with this heading that run the other way.
+fn close_edge(w: &mut [u32], g: Shape, edge: usize, heading: Heading)
     requires edge_lt_e { (edge < g.e) × (demand_at g ≤ length w.old) }
-    ensures { Filled (row_at g edge) g.k (shut_at g way w.old edge) w.old w.new }
+    ensures { Filled (row_at g edge) g.k (shut_at g (heading_number heading) w.old edge) w.old w.new }
 {
     let dirs = g.dirs;
     let at = layout::loads_at(g) + layout::edge_at(g, edge);
     for l in 0..g.k {
         let nets = w[at + l];
-        w[at + l] = shut(layout::runs(dirs, way, l), nets);
+        w[at + l] = shut(layout::runs(dirs, heading, l), nets);
     }
 }
 
 // The same for the edges from `from` on, up to `to`.
-fn close_edges(w: &mut [u32], g: Shape, from: usize, to: usize, way: u32)
-    requires shaped { Shaped g }
+fn close_edges(w: &mut [u32], g: Shape, from: usize, to: usize, heading: Heading)
     requires from_le_to { (from ≤ to) × (to ≤ g.e) × (demand_at g ≤ length w.old) }
-    ensures { Shut g from to way w.old w.new }
+    ensures { Shut g from to (heading_number heading) w.old w.new }
 {
     for e in from..to {
-        close_edge(w, g, e, way);
+        close_edge(w, g, e, heading);
     }
 }
 
 // Closes the layers of each edge that run the other way, where the job says which way its layers run.
 pub fn close_layers(w: &mut [u32], g: Shape)
-    requires shaped { Shaped g }
     requires g_in_bounds { demand_at g ≤ length w.old }
     ensures { Closed g w.old w.new }
 {
-    let dirs = g.dirs;
-    match dirs {
-        Dirs::Any => {}
-        Dirs::Given(_) => {
-            close_edges(w, g, 0, g.east, 0);
-            close_edges(w, g, g.east, g.e, 1);
-        }
+    if g.dirs.is_none() {
+        return;
     }
+    close_edges(w, g, 0, g.east, Heading::East);
+    close_edges(w, g, g.east, g.e, Heading::North);
 }
 
 // 1 where a layer is full.
@@ -137,7 +130,6 @@ fn full_of(load: u32, cap: u32) -> u32
 
 // One more net on a layer, 1 to K, of an edge. Where the layer was full, the edge has less overflow left.
 pub fn occupy(w: &mut [u32], g: Shape, edge: usize, layer: usize)
-    requires shaped { Shaped g }
     requires edge_lt_e { (edge < g.e) × (1 ≤ layer) × (layer ≤ g.k) × (flat_at g ≤ length w.old) }
     requires free { Free g w.old edge layer }
     ensures { w.new ≡ occupied g w.old edge layer }
@@ -154,7 +146,6 @@ pub fn occupy(w: &mut [u32], g: Shape, edge: usize, layer: usize)
 
 // One more net, with n tiles in its walk: the edge above each but the first, on the layer chosen for it.
 pub fn occupy_all(w: &mut [u32], g: Shape, n: usize)
-    requires shaped { Shaped g }
     requires n_le_m { (n ≤ g.m) × (areas_end g ≤ length w.old) }
     requires can_take { CanTake g w.old (edges_of g n w.old) (layers_in g n w.old) }
     ensures { w.new ≡ occupied_all g w.old (edges_of g n w.old) (layers_in g n w.old) }

@@ -10,7 +10,7 @@ use lib.Seq.{drop-cons, ext_get_or, get_or-set_same, get_or-set_other}
 use Rattle.layout.specs.Areas.{chosen_at, list_at, above_at}
 use Rattle.layout.specs.Parts.{part, part_at, part-long, Outside, set-outside, outside_wider, outside-then, outside-same}
 use Rattle.layout.specs.Shapes.{Shaped}
-use Rattle.layout.specs.declared.Shape.{Shape}
+use Rattle.layout.specs.declared.shape.Shape.{Shape}
 use Rattle.tracks.specs.OccupiedAll.{layers_at, edges_of, layers_in}
 use Rattle.turn.specs.Steps.{KnownEdges, put_by, chosen_in, listed_layers}
 

@@ -15,7 +15,7 @@ use Rattle.engine.specs.Net.{Holds, HoldsNet, Placed}
 use Rattle.layout.specs.Areas.{tiles_at, links_at, chosen_at, list_at, above_at, engine_at, areas_end}
 use Rattle.layout.specs.Parts.{part, part_at, part-long, part-outside, Outside, outside_wider, outside-then}
 use Rattle.layout.specs.Shapes.{Shaped}
-use Rattle.layout.specs.declared.Shape.{Shape}
+use Rattle.layout.specs.declared.shape.Shape.{Shape}
 use Rattle.marks.specs.Marks.{Older}
 use Rattle.marks.specs.Words.{bit_of, bit_is}
 use Rattle.model.specs.Job.{group}

@@ -10,7 +10,7 @@ use Rattle.engine.specs.Net.{Holds, HoldsNet, Placed}
 use Rattle.layout.specs.Areas.{engine_at, areas_end}
 use Rattle.layout.specs.Lent.{lent-part, put-part, put-outside}
 use Rattle.layout.specs.Parts.{Outside, part-long}
-use Rattle.layout.specs.declared.Shape.{Shape}
+use Rattle.layout.specs.declared.shape.Shape.{Shape}
 use Rattle.model.specs.Job.{Job, Net}
 use Rattle.turn.specs.Steps.{engine_of}
 

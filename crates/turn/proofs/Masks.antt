@@ -9,7 +9,7 @@ use lib.ListN.{length, get_or, set}
 use lib.Seq.{get_or-set_same, get_or-set_other}
 use Rattle.layout.specs.Areas.{above_at}
 use Rattle.layout.specs.Parts.{Outside, set-outside, outside_wider, outside-then, outside-same}
-use Rattle.layout.specs.declared.Shape.{Shape}
+use Rattle.layout.specs.declared.shape.Shape.{Shape}
 use Rattle.net.specs.Places.{SmallCapacities}
 use Rattle.turn.specs.Kept.{outside_low, small_low, mask_low}
 use Rattle.turn.specs.Steps.{masks_at, KnownEdges, legal_at, LegalPut}

@@ -11,7 +11,7 @@ use Rattle.cut.specs.Net.{RingAt}
 use Rattle.layout.specs.Areas.{tiles_at, links_at, chosen_at, list_at, stops_at, links_of}
 use Rattle.layout.specs.Parts.{part, Outside, part-outside}
 use Rattle.layout.specs.Shapes.{Shaped}
-use Rattle.layout.specs.declared.Shape.{Shape}
+use Rattle.layout.specs.declared.shape.Shape.{Shape}
 use Rattle.marks.specs.Marks.{Older}
 use Rattle.model.specs.Lists.{In, has}
 use Rattle.net.specs.Table.{PinsAt, EdgesAt}

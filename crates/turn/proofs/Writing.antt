@@ -11,7 +11,7 @@ use lib.ListN.{length, get_or}
 use Rattle.layout.specs.Areas.{loads_at, tiles_at, links_at, chosen_at, list_at, above_at, areas_end}
 use Rattle.layout.specs.Parts.{part_at, part-long, part-outside, Outside}
 use Rattle.layout.specs.Shapes.{Shaped}
-use Rattle.layout.specs.declared.Shape.{Shape}
+use Rattle.layout.specs.declared.shape.Shape.{Shape}
 use Rattle.marks.specs.Marks.{Older}
 use Rattle.model.specs.Lists.{has, In}
 use Rattle.model.specs.Plan.{layer_of, best}

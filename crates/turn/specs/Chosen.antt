@@ -3,7 +3,7 @@
 use Rattle.std.specs.Prelude.{Bool, cond, List, [], ◌∷◌, map, ◌≢◌, ◌≡◌, refl, ℕ, ◌+◌, ◌≤◌, ◌<◌, length, get_or, set}
 use Rattle.std.proofs.Common.{⊎_elim, sym, ap, ap₂, ◌∙◌, arith, eq-eqb, ne_eqb, length-set, get_or-set_same, get_or-set_other}
 use Rattle.layout.specs.Parts.{Outside, set-outside, outside_wider, outside-then, outside-same}
-use Rattle.layout.specs.declared.Shape.{Shape}
+use Rattle.layout.specs.declared.shape.Shape.{Shape}
 use Rattle.model.specs.Lists.{same, occurs, In}
 use Rattle.model.specs.Plan.{layer_of}
 use Rattle.theory.specs.congestion.Sums.{same_cases, same_refl, in_head, in_tail}

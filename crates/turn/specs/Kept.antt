@@ -5,7 +5,7 @@ use Rattle.std.proofs.Math.Path.{ap, ap₂}
 use Rattle.std.proofs.Common.{◌∙◌, arith}
 use Rattle.layout.specs.Areas.{loads_at, demand_at, flat_at}
 use Rattle.layout.specs.Parts.{Outside}
-use Rattle.layout.specs.declared.Shape.{Shape}
+use Rattle.layout.specs.declared.shape.Shape.{Shape}
 use Rattle.model.specs.Job.{Job}
 use Rattle.model.specs.Lists.{bit}
 use Rattle.net.specs.SoFar.{SoFarWith}

@@ -3,7 +3,7 @@
 use Rattle.std.specs.Prelude.{List, [], ◌∷◌, map, ◌≡◌, ℕ, ◌+◌, ◌*◌, ◌≤◌, ◌<◌, get_or, set}
 use Rattle.layout.specs.Areas.{chosen_at, list_at, above_at, engine_at}
 use Rattle.layout.specs.Parts.{part, Outside}
-use Rattle.layout.specs.declared.Shape.{Shape}
+use Rattle.layout.specs.declared.shape.Shape.{Shape}
 use Rattle.tracks.specs.Legal.{legal_mask}
 
 -- by walk place: the legal layers of the edge above it

@@ -3,8 +3,8 @@
 use Rattle.std.specs.Prelude.{Bool, true, false, List, ◌∷◌, map, ◌≡◌, ℕ, suc, ◌+◌, ◌-◌, ◌≤◌, ◌<◌, length, get_or, set}
 use Rattle.std.proofs.Common.{ap}
 use Rattle.layout.specs.Areas.{tiles_at, chosen_at, list_at, above_at, engine_at, tiles_of, links_of}
-use Rattle.layout.specs.Shapes.{shape_of}
-use Rattle.layout.specs.declared.Shape.{Shape}
+use Rattle.layout.specs.Shapes.{ShapeOf}
+use Rattle.layout.specs.declared.shape.Shape.{Shape}
 use Rattle.marks.specs.Marks.{Older}
 use Rattle.marks.specs.Words.{bit_of}
 use Rattle.model.specs.Job.{Net, Job, net_of}
@@ -62,8 +62,8 @@ pub record OfJob (g : Shape) (j : Job) : Type 0 where
   pub height : g.h ≡ j.height
   pub layers : g.k ≡ j.layers
 
-pub of-job : (g : Shape) (j : Job) → g ≡ shape_of j.width j.height j.layers g.dirs → OfJob g j
-of-job g j e = record { width = ap (λ (a : Shape). a.w) e; height = ap (λ (a : Shape). a.h) e; layers = ap (λ (a : Shape). a.k) e }
+pub of-job : (g : Shape) (j : Job) → ShapeOf j.width j.height j.layers g.dirs g → OfJob g j
+of-job g j e = record { width = e.width; height = e.height; layers = e.layers }
 
 -- where the plan stands after the turn: the nets left are the rest
 pub turn-next : (u : Turn) → Midway u.lent u.job u.accepted u.rest (turn_plan u)

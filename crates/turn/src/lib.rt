@@ -3,12 +3,10 @@
 #![tactic(auto)]
 
 ghost use Rattle.std.specs.Prelude.{true, List, ◌≡◌, ℕ, ◌*◌, ◌≤◌, length};
-ghost use Rattle.sets.specs.Mask.{span_of, Charted};
 ghost use Rattle.engine.specs.Net.{Holds, HoldsNet, Placed};
 ghost use Rattle.flat.specs.Limited.{limit_at};
 ghost use Rattle.layout.specs.Areas.{chosen_at, engine_at, areas_end};
 ghost use Rattle.layout.specs.Parts.{Outside};
-ghost use Rattle.layout.specs.Shapes.{Shaped};
 ghost use Rattle.marks.specs.Words.{most_stamp};
 ghost use Rattle.model.specs.Job.{Job, Net};
 ghost use Rattle.model.specs.Limits.{most_nets};
@@ -19,6 +17,7 @@ ghost use Rattle.turn.specs.Steps.{KnownEdges, LegalPut, engine_of, put_by, Chos
 
 use flat::Limits;
 use layout::Shape;
+use sets::Chart;
 
 // A net's entries stand at `pins` and `edges` of the text, and it is read under this stamp; whether some of its entries were dropped.
 #[derive(Clone, Copy)]
@@ -38,7 +37,6 @@ pub struct Frame {
 
 // Puts the legal layers of the edge above each of n walk places but the first.
 fn put_legal(w: &mut [u32], g: Shape, n: usize, limits: Limits)
-    requires shaped { Shaped g }
     requires g_in_bounds { (areas_end g ≤ length w.old) × (1 ≤ n) × (n ≤ g.m) × ((e : ℕ) → limit_at limits e ≤ most_nets) }
     requires small_capacities { SmallCapacities g w.old × KnownEdges g n w.old }
     ensures { LegalPut g n (limit_at limits) w.old w.new }
@@ -54,9 +52,7 @@ fn put_legal(w: &mut [u32], g: Shape, n: usize, limits: Limits)
 }
 
 // Chooses the layers of the net with n tiles that stands in the engine's part. Its vias.
-fn place(w: &mut [u32], g: Shape, n: usize, chart: &[u32; 256]) -> u32
-    requires charted { Charted span_of chart.now }
-    requires shaped { Shaped g }
+fn place(w: &mut [u32], g: Shape, n: usize, chart: &Chart) -> u32
     requires g_in_bounds { areas_end g ≤ length w.old }
     requires holds_net { HoldsNet (engine_of g w.old) g.m n g.k }
     ensures placed { (j : Job) (net : Net) (allowed : ℕ → List ℕ) → Holds j net allowed (engine_of g w.old) g.m n g.k → Placed (λ l. l) j net allowed (engine_of g w.old) (engine_of g w.new) g.m result }
@@ -69,7 +65,6 @@ fn place(w: &mut [u32], g: Shape, n: usize, chart: &[u32; 256]) -> u32
 
 // Puts the chosen layers of the edges above the walk places by edge.
 fn put_chosen(w: &mut [u32], g: Shape, n: usize)
-    requires shaped { Shaped g }
     requires g_in_bounds { (areas_end g ≤ length w.old) × (n ≤ g.m) × KnownEdges g n w.old }
     ensures { w.new ≡ put_by (chosen_at g) w.old (edges_of g n w.old) (layers_in g n w.old) }
 {
@@ -85,7 +80,6 @@ fn put_chosen(w: &mut [u32], g: Shape, n: usize)
 
 // Writes the net's layers in the order of its line into its stretch of the answer list.
 fn put_answer(w: &[u32], g: Shape, out: &mut [u8])
-    requires shaped { Shaped g }
     requires g_in_bounds { (areas_end g ≤ length w.now) × (length out.old ≤ 2 * g.t) }
     requires can_answer { CanAnswer g (length out.old) w.now }
     ensures { out.new ≡ listed_layers g w.now (length out.old) }
@@ -100,7 +94,6 @@ fn put_answer(w: &[u32], g: Shape, out: &mut [u8])
 
 // Takes away the layers that stand for the first n edges listed.
 fn clear_chosen(w: &mut [u32], g: Shape, n: usize)
-    requires shaped { Shaped g }
     requires g_in_bounds { (areas_end g ≤ length w.old) × (n ≤ 2 * g.t) × KnownList g n w.old }
     ensures { ChosenCleared g n w.old w.new }
 {
@@ -114,7 +107,6 @@ fn clear_chosen(w: &mut [u32], g: Shape, n: usize)
 
 // Reads a net again, some of whose entries were dropped: for these nothing is chosen. Its lowest tile.
 fn read_cut(s: &[u8], net: NetAt, w: &mut [u32], g: Shape) -> usize
-    requires shaped { Shaped g }
     requires g_in_bounds { (areas_end g ≤ length w.old) × (net.stamp ≤ most_stamp) }
     requires before_some { BeforeSome s.now net.pins net.edges true g net.stamp w.old }
     ensures { (u : Turn) → Before s.now net.pins net.edges true g net.stamp w.old u → NetAgain g net.stamp w.old w.new result u }
@@ -126,7 +118,6 @@ fn read_cut(s: &[u8], net: NetAt, w: &mut [u32], g: Shape) -> usize
 
 // Reads any net again. Its lowest tile.
 fn read_again(s: &[u8], net: NetAt, w: &mut [u32], g: Shape) -> usize
-    requires shaped { Shaped g }
     requires g_in_bounds { (areas_end g ≤ length w.old) × (net.stamp ≤ most_stamp) }
     requires before_some { BeforeSome s.now net.pins net.edges net.dropped g net.stamp w.old }
     ensures { (u : Turn) → Before s.now net.pins net.edges net.dropped g net.stamp w.old u → NetAgain g net.stamp w.old w.new result u }
@@ -140,7 +131,6 @@ fn read_again(s: &[u8], net: NetAt, w: &mut [u32], g: Shape) -> usize
 
 // Reads the net again, and walks it. How many tiles it has.
 fn read_and_walk(s: &[u8], net: NetAt, w: &mut [u32], g: Shape) -> usize
-    requires shaped { Shaped g }
     requires g_in_bounds { (areas_end g ≤ length w.old) × (net.stamp ≤ most_stamp) }
     requires before_some { BeforeSome s.now net.pins net.edges net.dropped g net.stamp w.old }
     ensures net_walked { (u : Turn) → Before s.now net.pins net.edges net.dropped g net.stamp w.old u → NetWalked g net.stamp result w.new u }
@@ -151,9 +141,7 @@ fn read_and_walk(s: &[u8], net: NetAt, w: &mut [u32], g: Shape) -> usize
 }
 
 // Chooses the layers of the net with n tiles that is walked. Its vias.
-fn choose_layers(w: &mut [u32], g: Shape, n: usize, limits: Limits, chart: &[u32; 256]) -> u32
-    requires charted { Charted span_of chart.now }
-    requires shaped { Shaped g }
+fn choose_layers(w: &mut [u32], g: Shape, n: usize, limits: Limits, chart: &Chart) -> u32
     requires g_in_bounds { areas_end g ≤ length w.old }
     requires walked_some { WalkedSome g n (limit_at limits) w.old }
     ensures net_chosen { (u : Turn) (stamp : ℕ) → NetWalked g stamp n w.old u → ((e : ℕ) → limit_at limits e ≡ turn_limit u e) → NetChosen g stamp n w.new u × (result ≡ turn_vias u) }
@@ -165,7 +153,6 @@ fn choose_layers(w: &mut [u32], g: Shape, n: usize, limits: Limits, chart: &[u32
 
 // Writes the chosen layers into the net's stretch `out` of the answer list, and puts one more net on them.
 fn write_layers(w: &mut [u32], g: Shape, n: usize, out: &mut [u8])
-    requires shaped { Shaped g }
     requires g_in_bounds { areas_end g ≤ length w.old }
     requires chosen_some { ChosenSome g n (length out.old) w.old }
     ensures net_placed { (u : Turn) (stamp : ℕ) → NetChosen g stamp n w.old u → length out.old ≡ length (turn_net u).entries → NetPlaced g stamp w.new out.new u }
@@ -185,10 +172,8 @@ pub fn take_turn(
     w: &mut [u32],
     frame: Frame,
     out: &mut [u8],
-    chart: &[u32; 256],
+    chart: &Chart,
 ) -> u32
-    requires charted { Charted span_of chart.now }
-    requires shaped { Shaped frame.shape }
     requires shape_in_bounds { (areas_end frame.shape ≤ length w.old) × (net.stamp ≤ most_stamp) }
     requires turn_some { TurnSome s.now net.pins net.edges net.dropped frame.shape net.stamp (limit_at frame.limits) w.old (length out.old) }
     ensures turn_done { (u : Turn) → TurnAt s.now net.pins net.edges net.dropped frame.shape net.stamp (limit_at frame.limits) w.old (length out.old) u → TurnDone frame.shape net.stamp w.new out.new result u }

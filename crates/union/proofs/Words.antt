@@ -9,7 +9,7 @@ use native.Mathlib.Omega.{arith}
 use lib.Dec.{eqb}
 use lib.ListN.{length, get_or, set, length-set}
 use lib.Seq.{get_or-set_same, get_or-set_other}
-use Rattle.layout.specs.Shapes.{most_tiles}
+use Rattle.layout.specs.Bounds.{most_tiles}
 use Rattle.marks.specs.Words.{stamp_unit}
 use Rattle.theory.specs.congestion.Sums.{same_cases, eqb-true, eqb-false}
 use Rattle.theory.specs.walk.Joined.{relabel, relabel-same}

@@ -5,7 +5,7 @@
 ghost use Rattle.std.specs.Prelude.{◌≡◌, ◌+◌, ◌*◌, ◌<◌, ◌≤◌, min, max, length, set};
 ghost use Rattle.layout.specs.Areas.{links_at, chosen_at, links_of};
 ghost use Rattle.layout.specs.Parts.{Outside};
-ghost use Rattle.layout.specs.Shapes.{Shaped, most_tiles};
+ghost use Rattle.layout.specs.Bounds.{most_tiles};
 ghost use Rattle.marks.specs.Words.{most_stamp, stamp_unit};
 ghost use Rattle.union.specs.Links.{parent_in, Links, Found, Merged};
 
@@ -35,6 +35,7 @@ pub fn root(a: &mut [u32], stamp: usize, x: usize) -> usize
     ensures { Found stamp a.old x a.new result }
 {
     let mut t = x;
+    // not a `for`: it goes from a tile to one above it, until it is at the root
     loop {
         let p = parent(a, stamp, t);
         if p == t {
@@ -59,6 +60,7 @@ pub fn link(a: &mut [u32], stamp: usize, p: usize, q: usize)
 }
 
 // Joins tiles x and y. Whether they were apart.
+#[inline(always)]
 pub fn join(a: &mut [u32], stamp: usize, x: usize, y: usize) -> bool
     requires { (stamp ≤ most_stamp) × (length a.old ≤ most_tiles) × (x < length a.old) × (y < length a.old) × Links stamp a.old }
     ensures { Merged stamp a.old x y a.new result }
@@ -72,9 +74,10 @@ pub fn join(a: &mut [u32], stamp: usize, x: usize, y: usize) -> bool
     true
 }
 
-// Joins the two tiles of an edge, whose links are a part of the working numbers. Whether they were apart.
+// Joins the two tiles of an edge, whose links are a part of the working numbers. Whether they were apart. Two crates call it,
+// and it is put into the loop that reads each line first all the same, where a call costs a whole job 5 %.
+#[inline(always)]
 pub fn put_join(w: &mut [u32], g: Shape, stamp: u32, here: usize, there: usize) -> bool
-    requires shaped { Shaped g }
     requires g_in_bounds { (chosen_at g ≤ length w.old) × (here < g.t) × (there < g.t) × (stamp ≤ most_stamp) × Links stamp (links_of g w.old) }
     ensures merged { Merged stamp (links_of g w.old) here there (links_of g w.new) result }
     ensures outside { Outside (links_at g) g.t w.old w.new }

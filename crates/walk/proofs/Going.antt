@@ -12,7 +12,7 @@ use lib.Seq.{get_or-set_same, get_or-set_other}
 use Rattle.layout.specs.Areas.{tiles_at, stops_at, above_at, engine_at, areas_end, tiles_of}
 use Rattle.layout.specs.Parts.{Outside, part_at, set-outside, outside_wider, outside-then}
 use Rattle.layout.specs.Shapes.{Shaped, WayRoom}
-use Rattle.layout.specs.declared.Shape.{Shape}
+use Rattle.layout.specs.declared.shape.Shape.{Shape}
 use Rattle.layout.specs.declared.Way.{Way}
 use Rattle.marks.specs.Marks.{bits_at}
 use Rattle.marks.specs.Words.{bits_in, bit_of, stamp_unit}

@@ -11,7 +11,7 @@ use lib.ListN.{length, set, length-append}
 use borrow.Author.Tests.{eq-eqb, ne_eqb}
 use Rattle.layout.specs.Areas.{stops_at, above_at}
 use Rattle.layout.specs.Shapes.{Shaped, way_of}
-use Rattle.layout.specs.declared.Shape.{Shape}
+use Rattle.layout.specs.declared.shape.Shape.{Shape}
 use Rattle.layout.specs.declared.Way.{Way}
 use Rattle.marks.specs.Words.{bit_of}
 use Rattle.model.specs.Lists.{up_from}

@@ -7,7 +7,7 @@ use Prim.Native.Nat.{ℕ, ◌+◌, ◌%◌, ◌≤◌, ◌<◌}
 use lib.ListN.{length, get_or, set}
 use Rattle.layout.specs.Areas.{stops_at, above_at, tiles_at, engine_at}
 use Rattle.layout.specs.Shapes.{WayRoom}
-use Rattle.layout.specs.declared.Shape.{Shape}
+use Rattle.layout.specs.declared.shape.Shape.{Shape}
 use Rattle.marks.specs.Words.{bits_in, bit_of}
 use Rattle.walk.specs.Steps.{onward, four_ways, put_ways, tile_in, marks_in, branches_in, visited}
 

@@ -4,7 +4,7 @@
 use Rattle.std.specs.Prelude.{Bool, ◌&&◌, not, cond, List, [], ◌∷◌, ℕ, suc, ◌+◌, ◌%◌, eqb, length, get_or, set}
 use Rattle.layout.specs.Areas.{tiles_at, stops_at, above_at, engine_at}
 use Rattle.layout.specs.Shapes.{way_of}
-use Rattle.layout.specs.declared.Shape.{Shape}
+use Rattle.layout.specs.declared.shape.Shape.{Shape}
 use Rattle.layout.specs.declared.Way.{Way}
 use Rattle.marks.specs.Words.{bits_in, bit_of}
 

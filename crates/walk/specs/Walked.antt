@@ -3,7 +3,7 @@
 use Rattle.std.specs.Prelude.{List, ◌≡◌, ℕ, suc, ◌+◌, ◌-◌, ◌*◌, ◌≤◌, ◌<◌, length, get_or}
 use Rattle.layout.specs.Areas.{stops_at, above_at, engine_at}
 use Rattle.layout.specs.Parts.{Outside}
-use Rattle.layout.specs.declared.Shape.{Shape}
+use Rattle.layout.specs.declared.shape.Shape.{Shape}
 use Rattle.marks.specs.Words.{bit_of}
 use Rattle.model.specs.Job.{Job, Net}
 use Rattle.model.specs.Lists.{has}

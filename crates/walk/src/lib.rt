@@ -4,7 +4,7 @@
 
 ghost use Rattle.std.specs.Prelude.{◌≡◌, true, [], ◌∷◌, ℕ, ◌+◌, ◌*◌, ◌<◌, ◌≤◌, length, get_or};
 ghost use Rattle.layout.specs.Areas.{tiles_at, stops_at, areas_end};
-ghost use Rattle.layout.specs.Shapes.{Shaped, WayRoom};
+ghost use Rattle.layout.specs.Shapes.{WayRoom};
 ghost use Rattle.marks.specs.Words.{bits_in, bit_of, most_stamp, stamp_unit};
 ghost use Rattle.model.specs.Job.{Job, Net};
 ghost use Rattle.walk.specs.Steps.{onward, four_ways, put_ways, tile_in, marks_in, branches_in, visited};
@@ -22,7 +22,6 @@ pub struct Stop {
 
 // Writes the tile at the end of way d of tile x as place n, if the net goes there and it is not the way back.
 fn step(w: &mut [u32], g: Shape, x: Stop, d: usize, n: usize) -> usize
-    requires shaped { Shaped g }
     requires g_in_bounds { areas_end g ≤ length w.old }
     requires d_bound { d < 4 }
     requires way_room { bit_of x.marks (8 + d) ≡ true → WayRoom g x.tile d }
@@ -44,7 +43,6 @@ fn step(w: &mut [u32], g: Shape, x: Stop, d: usize, n: usize) -> usize
 
 // Writes the branches of tile x from place n on: its four ways in order. Returns where they end.
 fn branches(w: &mut [u32], g: Shape, x: Stop, n: usize) -> usize
-    requires shaped { Shaped g }
     requires g_in_bounds { areas_end g ≤ length w.old }
     requires by_index { (d : ℕ) → d < 4 → bit_of x.marks (8 + d) ≡ true → WayRoom g x.tile d }
     requires four_ways_bound { n + length (onward g x.tile x.marks x.above four_ways) ≤ g.m }
@@ -73,7 +71,6 @@ fn latest_bits(word: u32, stamp: u32) -> u32
 
 // Takes out the tile at place i: writes its branches from place n on, and notes where they end and the layers of the tile's pins.
 fn visit(w: &mut [u32], g: Shape, stamp: u32, i: usize, n: usize) -> usize
-    requires shaped { Shaped g }
     requires g_in_bounds { areas_end g ≤ length w.old }
     requires i_lt_m { (i < g.m) × (tile_in g w.old i < g.t) }
     requires by_index { (d : ℕ) → d < 4 → bit_of (marks_in g stamp w.old i) (8 + d) ≡ true → WayRoom g (tile_in g w.old i) d }
@@ -99,7 +96,6 @@ fn visit(w: &mut [u32], g: Shape, stamp: u32, i: usize, n: usize) -> usize
 // Numbers the tiles of the net at hand in walk order from `root` on, its lowest tile. No edge has the number E, which stands above the root.
 // Returns how many tiles the net has.
 pub fn walk(w: &mut [u32], g: Shape, stamp: u32, root: usize) -> usize
-    requires shaped { Shaped g }
     requires g_in_bounds { areas_end g ≤ length w.old }
     requires walk_ready { WalkReady g stamp root w.old }
     requires stamp_le_most_stamp { stamp ≤ most_stamp }
@@ -109,6 +105,7 @@ pub fn walk(w: &mut [u32], g: Shape, stamp: u32, root: usize) -> usize
     w[layout::above_at(g)] = g.e as u32;
     let mut n = 1;
     let mut i = 0;
+    // not a `for`: the bound grows as tiles are found
     while i < n {
         n = visit(w, g, stamp, i, n);
         i += 1;

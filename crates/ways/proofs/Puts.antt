@@ -3,8 +3,7 @@
 use mathlib.Core.Bool.{Bool, true, false, cond}
 use mathlib.Core.List.{List}
 use mathlib.Core.Path.{◌≡◌, refl, sym, ap, ◌∙◌}
-use Prim.Native.Nat.{ℕ, ◌+◌, ◌≤◌}
-use native.Mathlib.Omega.{arith}
+use Prim.Native.Nat.{ℕ, ◌+◌}
 use borrow.Author.Tests.{ne_eqb}
 use lib.Dec.{eqb}
 use Rattle.marks.specs.Marks.{bits_at, marked, mark, put_of, marks_after}
@@ -12,8 +11,8 @@ use Rattle.marks.specs.Words.{bit-some}
 use Rattle.marks.specs.declared.Put.{Put}
 use Rattle.marks.specs.declared.Put.TheVariants.{Twice, Fresh, Known}
 use Rattle.model.specs.Lists.{bit}
+use Rattle.std.specs.Prelude.{Some, None}
 use Rattle.ways.specs.Ends.{first_mark, ends_of, ends_after}
-use Rattle.ways.specs.declared.Ends.TheVariants.{Twice as Marked, New}
 
 module _ (n : ℕ) (a : List ℕ) (t i : ℕ) where
   abbrev Finds : Put → Type 0
@@ -39,27 +38,16 @@ module _ (n : ℕ) (a : List ℕ) (t i : ℕ) where
   pub first-known : Known ≡ put_of n a t i → 0 ≡ first_mark n a t
   first-known e = sym (ap bit (put-finds Known e).1)
 
-pub first_small : (n : ℕ) (a : List ℕ) (t k : ℕ) → k ≡ first_mark n a t → k ≤ 1
-first_small n a t k e = go (eqb (bits_at n a t) 0) e
-  where
-    go : (q : Bool) → k ≡ bit q → k ≤ 1
-    go true h = omega arith
-    go false h = omega arith
-
 module _ (n : ℕ) (a : List ℕ) (here there d : ℕ) (b : List ℕ) (b-is : b ≡ marks_after n a here (8 + d)) where
-  pub ends-marked : Twice ≡ put_of n a here (8 + d) → (Marked ≡ ends_of n a here there d) × (b ≡ ends_after n a here there d)
+  pub ends-marked : Twice ≡ put_of n a here (8 + d) → (None ≡ ends_of n a here there d) × (b ≡ ends_after n a here there d)
   unfolding ends_of ends_after marks_after
   ends-marked e = let m = put-finds n a here (8 + d) Twice e in (rw m, rw (b-is, m))
 
-  module _ (k : ℕ) (k-is : k ≡ first_mark n b there) (c : List ℕ) (c-is : c ≡ marks_after n b there (10 + d)) (new : marked n a here (8 + d) ≡ false) where
-    first_is : b ≡ mark n a here (8 + d)
-    unfolding marks_after
-    first_is = rw b-is (rw new)
-
-    pub ends-after : c ≡ ends_after n a here there d
-    unfolding ends_after
-    ends-after = c-is ∙ rw (first_is, new)
-
-    pub ends-count : (j : ℕ) → j ≡ first_mark n a here + k → New j ≡ ends_of n a here there d
-    unfolding ends_of
-    ends-count j e = rw (new, e, k-is, first_is)
+  -- the count for both tiles, from that for the one where it starts and that for the other
+  module _ (start k j : ℕ) (c : List ℕ) (new : marked n a here (8 + d) ≡ false) (start-is : start ≡ first_mark n a here) (k-is : k ≡ first_mark n b there)
+      (c-is : c ≡ marks_after n b there (10 + d)) where
+    pub ends-new : j ≡ start + k → (Some j ≡ ends_of n a here there d) × (c ≡ ends_after n a here there d)
+    unfolding ends_of ends_after marks_after
+    ends-new e =
+        let first : b ≡ mark n a here (8 + d) = rw b-is (rw new) in
+        (rw (e, new, start-is, k-is, first), c-is ∙ rw (first, new))

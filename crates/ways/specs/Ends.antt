@@ -1,22 +1,20 @@
 -- What is marked of an edge in its two tiles: bit 8 + d where it starts, and the way back, bit 10 + d, where it ends. d is 0 for an edge to the east
 -- and 1 for an edge to the north.
 -- Assumes nothing.
-use Rattle.std.specs.Prelude.{Bool, true, false, ◌&&◌, ◌||◌, not, cond, List, ◌≡◌, refl, ℕ, ◌+◌, ◌≤◌, ◌<◌, eqb, length}
+use Rattle.std.specs.Prelude.{Bool, true, false, ◌&&◌, ◌||◌, not, cond, List, Option, Some, None, ◌≡◌, refl, ℕ, ◌+◌, ◌≤◌, ◌<◌, eqb, length}
 use Rattle.std.proofs.Common.{ap, ◌∙◌, arith, eq-eqb, ne_eqb}
 use Rattle.std.proofs.Math.Decide.{ℕ_discrete}
 use Rattle.marks.specs.Marks.{bits_at, marked, touched, mark, marks_after, mark-has, mark-touches, mark-fits, mark-long}
 use Rattle.marks.specs.Words.{Fits, bit-some}
 use Rattle.model.specs.Lists.{bit}
-use Rattle.ways.specs.declared.Ends.{Ends}
-use Rattle.ways.specs.declared.Ends.TheVariants.{Twice, New}
 
 -- 1 where tile t has no mark yet
 abbrev pub first_mark : ℕ → List ℕ → ℕ → ℕ
 first_mark n a t = bit (eqb (bits_at n a t) 0)
 
--- what marking an edge finds, and what it leaves
-unfoldable pub ends_of : ℕ → List ℕ → ℕ → ℕ → ℕ → Ends
-ends_of n a here there d = cond (marked n a here (8 + d)) Twice (New (first_mark n a here + first_mark n (mark n a here (8 + d)) there))
+-- what marking an edge finds, none where it is marked already, and what it leaves
+unfoldable pub ends_of : ℕ → List ℕ → ℕ → ℕ → ℕ → Option ℕ
+ends_of n a here there d = cond (marked n a here (8 + d)) None (Some (first_mark n a here + first_mark n (mark n a here (8 + d)) there))
 
 unfoldable pub ends_after : ℕ → List ℕ → ℕ → ℕ → ℕ → List ℕ
 ends_after n a here there d = cond (marked n a here (8 + d)) a (marks_after n (mark n a here (8 + d)) there (10 + d))
@@ -135,19 +133,19 @@ module _ (n : ℕ) (a : List ℕ) (here there d : ℕ) (here_in : here < length 
   ends-fit f = rw ends-are (after-fits n (mark n a here (8 + d)) there (10 + d) room (omega arith) (mark-fits n a here (8 + d) here_in (omega arith) new f))
 
 -- what was found tells whether the edge was marked
-pub twice-marked : (n : ℕ) (a : List ℕ) (here there d : ℕ) → Twice ≡ ends_of n a here there d → marked n a here (8 + d) ≡ true
+pub twice-marked : (n : ℕ) (a : List ℕ) (here there d : ℕ) → None ≡ ends_of n a here there d → marked n a here (8 + d) ≡ true
 unfolding ends_of
 twice-marked n a here there d e = go (marked n a here (8 + d)) _ e
   where
-    go : (q : Bool) (k : ℕ) → Twice ≡ cond q Twice (New k) → q ≡ true
+    go : (q : Bool) (k : ℕ) → None ≡ cond q None (Some k) → q ≡ true
     go true k h = refl
     go false k h = absurd (let y : ◌≡◌ {A = ℕ} 0 1 = cc in omega arith)
 
-pub new-marked : (n : ℕ) (a : List ℕ) (here there d k : ℕ) → New k ≡ ends_of n a here there d
+pub new-marked : (n : ℕ) (a : List ℕ) (here there d k : ℕ) → Some k ≡ ends_of n a here there d
     → (marked n a here (8 + d) ≡ false) × (k ≡ first_mark n a here + first_mark n (mark n a here (8 + d)) there)
 unfolding ends_of
 new-marked n a here there d k e = go (marked n a here (8 + d)) _ e
   where
-    go : (q : Bool) (j : ℕ) → New k ≡ cond q Twice (New j) → (q ≡ false) × (k ≡ j)
+    go : (q : Bool) (j : ℕ) → Some k ≡ cond q None (Some j) → (q ≡ false) × (k ≡ j)
     go true j h = absurd (let y : ◌≡◌ {A = ℕ} 0 1 = cc in omega arith)
     go false j h = (refl, cc)

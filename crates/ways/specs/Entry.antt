@@ -5,7 +5,7 @@ use Rattle.std.proofs.Common.{⊎_elim, sym, ap, ap₂, ◌∙◌, mod-lt, div-l
 use Rattle.std.proofs.Math.Decide.{ℕ_discrete}
 use Rattle.std.proofs.Math.Nat.{div-eq_of_lt-le, div-add-mod}
 use Rattle.layout.specs.Shapes.{Shaped, tile-below, way_of}
-use Rattle.layout.specs.declared.Shape.{Shape}
+use Rattle.layout.specs.declared.shape.Shape.{Shape}
 use Rattle.layout.specs.declared.Way.{Way}
 use Rattle.model.specs.Grid.{tile, east_count, east_edge, north_edge}
 use Rattle.model.specs.Read.{Triple, edge_inside, edge_at}

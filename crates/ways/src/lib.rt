@@ -3,7 +3,7 @@
 #![tactic(auto)]
 
 ghost use Rattle.std.specs.Prelude.{true, ◌≡◌, ◌+◌, ◌/◌, ◌<◌, ◌≤◌, length};
-ghost use Rattle.layout.specs.Shapes.{Shaped, way_of};
+ghost use Rattle.layout.specs.Shapes.{way_of};
 ghost use Rattle.marks.specs.Marks.{marks_after};
 ghost use Rattle.marks.specs.Words.{most_stamp};
 ghost use Rattle.model.specs.Read.{edge_inside};
@@ -14,16 +14,8 @@ ghost use Rattle.ways.specs.Ends.{first_mark, ends_of, ends_after};
 use layout::{Shape, Way};
 use marks::Put;
 
-// What marking an edge found: it is marked already, or how many of its two tiles had no mark.
-#[derive(Clone, Copy)]
-pub enum Ends {
-    Twice,
-    New(usize),
-}
-
 // The way east, 0, or north, 1, out of the tile `here` in row y: what `layout::way_out` finds, without a division.
 pub fn way_on(g: Shape, here: usize, y: usize, d: usize) -> Way
-    requires shaped { Shaped g }
     requires here_lt_t { (here < g.t) × (here / g.w ≡ y) × (d ≤ 1) }
     ensures { result ≡ way_of g here d }
 {
@@ -41,7 +33,6 @@ pub fn way_on(g: Shape, here: usize, y: usize, d: usize) -> Way
 
 // The number of the edge that an entry inside the grid names.
 pub fn edge_of(g: Shape, x: usize, y: usize, d: usize) -> usize
-    requires shaped { Shaped g }
     requires d_bound { (d ≤ 1) × (edge_inside g.w g.h (triple x y d) ≡ true) }
     ensures { (result ≡ edge_of g (triple x y d)) × (result < g.e) }
 {
@@ -65,21 +56,16 @@ fn mark_back(a: &mut [u32], stamp: u32, there: usize, d: u32) -> usize
     }
 }
 
-// Marks an edge in its two tiles: way d, 0 for east and 1 for north, where it starts, and where it ends the way back, d + 2.
-pub fn mark_ends(a: &mut [u32], stamp: u32, here: usize, there: usize, d: u32) -> Ends
+// Marks an edge in its two tiles: way d, 0 for east and 1 for north, where it starts, and where it ends the way back, d + 2. How many of the two had no mark
+// is told, or nothing where the edge is marked already.
+pub fn mark_ends(a: &mut [u32], stamp: u32, here: usize, there: usize, d: u32) -> Option<usize>
     requires { (here < length a.old) × (there < length a.old) × (d ≤ 1) × (stamp ≤ most_stamp) }
     ensures value { result ≡ ends_of stamp a.old here there d }
     ensures a_after { a.new ≡ ends_after stamp a.old here there d }
 {
     match marks::set_mark(a, stamp, here, 8 + d) {
-        Put::Twice => Ends::Twice,
-        Put::Fresh => {
-            let k = mark_back(a, stamp, there, d);
-            Ends::New(1 + k)
-        }
-        Put::Known => {
-            let k = mark_back(a, stamp, there, d);
-            Ends::New(k)
-        }
+        Put::Twice => None,
+        Put::Fresh => Some(1 + mark_back(a, stamp, there, d)),
+        Put::Known => Some(mark_back(a, stamp, there, d)),
     }
 }

@@ -1,4 +1,5 @@
 -- `print` meets its contract: what its steps say is what the definitions say of the call (`Calls.antt`).
+use Rattle.std.specs.Prelude.{Some}
 use Rattle.std.proofs.Common.{◌≤◌, ℕ, refl, ap, ◌∙◌, subst, arith, length}
 use lib.ListN.{replicate}
 use Rattle.std.proofs.lemmas.List.{length-replicate}
@@ -6,7 +7,6 @@ use Rattle.layout.specs.Table.{table_size}
 use Rattle.model.specs.Read.{Lent}
 use Rattle.planning.specs.Opening.{nets_of}
 use Rattle.reader.specs.Whole.{lent_by}
-use Rattle.reader.specs.declared.PrintRoom.TheVariants.{Bytes}
 use Rattle.sort.specs.Sorted.{Arranged}
 use Rattle.calls.proofs.Calls.{print-asked, print-whole}
 use Rattle.calls.proofs.print.Goals as goal
@@ -15,24 +15,24 @@ use Rattle.calls.proofs.print.Goals.{After-arrange}
 -- the text is read and the order list is made
 module _ (c : After-arrange) where
   abbrev lent : Lent
-  lent = lent_by (length c.args.work.now) (length c.args.order.now) (length c.args.answer.now) (Bytes (length c.args.out.now))
+  lent = lent_by (length c.args.work.now) (length c.args.order.now) (length c.args.answer.now) (Some (length c.args.out.now))
 
-  wide : table_size ≤ length c.open_print-job.new.table
-  wide = omega (arith, c.open_print-job.auto.table, length-replicate {A = ℕ} 24576 0)
+  wide : table_size ≤ length c.open-job.new.table
+  wide = omega (arith, c.open-job.auto.table, length-replicate {A = ℕ} 24576 0)
 
-  made : Arranged (nets_of c.open_print-job.result) c.args.order.now c.arrange.new.order c.open_print-job.new.table c.arrange.new.table
-  made = subst (λ (n : ℕ). Arranged n c.args.order.now c.arrange.new.order c.open_print-job.new.table c.arrange.new.table) c.nets_of-nets.ensures c.arrange.ensures
+  made : Arranged (nets_of c.open-job.result) c.args.order.now c.arrange.new.order c.open-job.new.table c.arrange.new.table
+  made = subst (λ (n : ℕ). Arranged n c.args.order.now c.arrange.new.order c.open-job.new.table c.arrange.new.table) c.nets_of-nets.ensures c.arrange.ensures
 
 pub close_print-requires : goal.close_print-requires
 close_print-requires c =
     let a = (goal.at.close_print-requires c).After-arrange in
-    print-asked c.args.text.now (lent a) c.open_print-job.new.w c.open_print-job.new.table c.args.order.now c.arrange.new.order c.arrange.auto.order refl (wide a)
-    c.open_print-job.result c.arrange.new.table (length c.args.answer.now) (length c.args.out.now) refl refl c.open_print-job.ensures (made a)
+    print-asked c.args.text.now (lent a) c.open-job.new.w c.open-job.new.table c.args.order.now c.arrange.new.order c.arrange.auto.order refl (wide a)
+    c.open-job.result c.arrange.new.table (length c.args.answer.now) (length c.args.out.now) refl refl c.open-job.ensures (made a)
 
 pub returns : goal.returns
 returns c =
     let a = (goal.at.returns c).After-arrange in
-    let again = c.close_print.ensures.w_after ∙ ap (λ (n : ℕ). replicate n 0) c.open_print-job.auto.w in
-    let whole = print-whole c.args.text.now c.args.work.now c.open_print-job.new.w c.close_print.new.w c.args.order.now c.arrange.new.order c.open_print-job.new.table c.arrange.new.table c.args.answer.now c.close_print.new.answer
-    c.args.out.now c.close_print.new.out c.arrange.auto.order (wide a) again c.open_print-job.result c.close_print.result c.open_print-job.ensures (made a) c.close_print.ensures.print_closed in
+    let again = c.close_print.ensures.w_after ∙ ap (λ (n : ℕ). replicate n 0) c.open-job.auto.w in
+    let whole = print-whole c.args.text.now c.args.work.now c.open-job.new.w c.close_print.new.w c.args.order.now c.arrange.new.order c.open-job.new.table c.arrange.new.table c.args.answer.now c.close_print.new.answer
+    c.args.out.now c.close_print.new.out c.arrange.auto.order (wide a) again c.open-job.result c.close_print.result c.open-job.ensures (made a) c.close_print.ensures.print_closed in
     record { out_after = whole.0; met = whole.1 }

@@ -11,7 +11,7 @@ use Rattle.capacities.specs.Capacities.{spread_all}
 use Rattle.capacities.proofs.all_layers.Given as goal
 
 abbrev pub invariant-loop-layer : goal.invariant-loop-layer
-invariant-loop-layer l = (l.c.at ≤ length l.s) × (l.c.line ≡ l.initial.c.line + 2 * l.layer) × (l.layer ≤ l.g.k) × (length l.w ≡ length l.initial.w)
+invariant-loop-layer l = (l.c.at ≤ length l.s) × (l.c.line ≡ l.initial.c.line + 2 * l.layer) × (length l.w ≡ length l.initial.w)
     × (mapped (spread_all l.g.k l.initial.w 0) (capacity_lines l.g.w l.g.h (dirs_of l.g.k l.g.dirs) 1 l.g.k (place_of l.s l.initial.c))
     ≡ mapped (spread_all l.g.k l.w l.layer) (capacity_lines l.g.w l.g.h (dirs_of l.g.k l.g.dirs) (l.layer + 1) (l.g.k - l.layer) (place_of l.s l.c)))
 

@@ -1,7 +1,5 @@
 -- `brief_run` meets its contract. The loop's invariant: what was read so far leads from the first place to the one at hand.
 -- Assumes nothing.
-use Rattle.text.specs.Entries.{Brief}
-use Rattle.text.specs.declared.Numeral.TheVariants.{Value}
 use Rattle.capacities.specs.declared.Run.{Run}
 use Rattle.capacities.proofs.Going.{ran-start, ran_then, next-in, next_small, one_more}
 use native.Mathlib.Omega.{arith}
@@ -16,14 +14,6 @@ pub loop-left-init : goal.loop-left-init
 loop-left-init c =
     ran-start c.args.s.now c.args.k c.requires
 
-pub shape_of-w-in_default : goal.shape_of-w-in_default
-shape_of-w-in_default c =
-    c.loop-left.invariant.long
-
-pub returns-in_default : goal.returns-in_default
-returns-in_default c =
-    c.loop-left.invariant
-
 pub put-inside-requires : goal.put-inside-requires
 put-inside-requires c =
     let a = c.args in
@@ -37,14 +27,5 @@ overflow_add-to c =
 pub loop-left-preserved : goal.loop-left-preserved
 loop-left-preserved c =
     let a = c.args in
-    let f : Brief a.s.now c.loop-left.at 44 (Value c.in-Value.v c.in-Value.next) = rw c.in-Value.is at c.brief_comma.ensures in
     ran_then a.s.now a.k c.loop-left.invariant
-    (one_more a.s.now a.k c.loop-left.w (here (goal.at.loop-left-preserved c).At-loop-left) c.loop-left.invariant.stands c.loop-left-test.true c.in-Value.v c.in-Value.next c.put-inside.result c.put-inside.new.w f c.put-inside.ensures.value c.put-inside.ensures.w_after)
-
-pub shape_of-w : goal.shape_of-w
-shape_of-w c =
-    c.loop-left.invariant.long
-
-pub returns : goal.returns
-returns c =
-    c.loop-left.invariant
+    (one_more a.s.now a.k c.loop-left.w (here (goal.at.loop-left-preserved c).At-loop-left) c.loop-left.invariant.stands c.loop-left-test.true c.in-Some.n c.put-inside.result c.put-inside.new.w c.in-Some.ensures c.put-inside.ensures.value c.put-inside.ensures.w_after)

@@ -25,10 +25,10 @@ module _ (l : At-loop-r) where
 -- one capacity of any length, with a comma behind it
 one : (p : After-put) → let a = p.args in
     Ran a.s.now a.to.k p.loop-r.w p.loop-r.r p.put.new.w
-    (record { at = p.in-Value.next; to = p.loop-r.r.to + a.to.k; left = p.loop-r.r.left - 1; inside = p.put.result })
+    (record { at = p.in-Some.n.next; to = p.loop-r.r.to + a.to.k; left = p.loop-r.r.left - 1; inside = p.put.result })
 one p =
     let a = p.args in
-    one_more a.s.now a.to.k p.loop-r.w p.loop-r.r p.loop-r.invariant.stands p.loop-r-test.true p.in-Value.v p.in-Value.next p.put.result p.put.new.w (sym p.ended.ensures ∙ p.in-Value.is) p.put.ensures.value p.put.ensures.w_after
+    one_more a.s.now a.to.k p.loop-r.w p.loop-r.r p.loop-r.invariant.stands p.loop-r-test.true p.in-Some.n p.put.result p.put.new.w (sym p.ended.ensures ∙ p.in-Some.is) p.put.ensures.value p.put.ensures.w_after
 
 pub returns-then-to-eq0 : goal.returns-then-to-eq0
 returns-then-to-eq0 c =
@@ -93,14 +93,14 @@ put-all-requires c =
 
 pub shape_of-w : goal.shape_of-w
 shape_of-w c =
-    ap length c.put-all.ensures.w_after ∙ kept-length c.loop-r.w c.loop-r.r.to c.in-Value-ended.v ∙ (so_far (goal.at.shape_of-w c).At-loop-r).long
+    ap length c.put-all.ensures.w_after ∙ kept-length c.loop-r.w c.loop-r.r.to c.in-Some-ended.n.value ∙ (so_far (goal.at.shape_of-w c).At-loop-r).long
 
 pub returns : goal.returns
 returns c =
     let a = c.args in
-    let e = sym c.ended-2.ensures ∙ c.in-Value-ended.is in record {
-      result_after = last_told a.s.now a.to.k c.loop-r.w c.loop-r.r c.loop-r.invariant.stands c.loop-r-test.false a.c.line c.in-Value-ended.v c.in-Value-ended.next c.put-all.result c.put-all.new.w e c.put-all.ensures.value c.put-all.ensures.w_after c.answer-2.result c.answer-2.ensures
+    let e = sym c.ended-2.ensures ∙ c.in-Some-ended.is in record {
+      result_after = last_told a.s.now a.to.k c.loop-r.w c.loop-r.r c.loop-r.invariant.stands c.loop-r-test.false a.c.line c.in-Some-ended.n c.put-all.result c.put-all.new.w e c.put-all.ensures.value c.put-all.ensures.w_after c.answer-2.result c.answer-2.ensures
           ∙ sym (same_answer (goal.at.returns c).At-loop-r);
-      list_in = last_in a.s.now a.to.k c.loop-r.w c.loop-r.r c.loop-r.invariant.stands c.loop-r-test.false a.c.line c.in-Value-ended.v c.in-Value-ended.next c.put-all.result c.put-all.new.w e c.put-all.ensures.value c.put-all.ensures.w_after c.answer-2.result c.answer-2.ensures;
+      list_in = last_in a.s.now a.to.k c.loop-r.w c.loop-r.r c.loop-r.invariant.stands c.loop-r-test.false a.c.line c.in-Some-ended.n c.put-all.result c.put-all.new.w e c.put-all.ensures.value c.put-all.ensures.w_after c.answer-2.result c.answer-2.ensures;
       w_len_unchanged = shape_of-w (goal.at.returns c).After-answer-2;
     }

@@ -2,5 +2,5 @@
 use Rattle.std.proofs.Common.{◌<◌}
 use Rattle.cases.proofs.field.Given as goal
 
-abbrev pub invariant-loop-i : goal.invariant-loop-i
-invariant-loop-i l = l.v < 10000000
+abbrev pub invariant-loop-b : goal.invariant-loop-b
+invariant-loop-b l = l.v < 10000000

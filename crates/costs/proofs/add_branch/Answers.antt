@@ -10,9 +10,9 @@ use Rattle.costs.proofs.add_branch.Goals as goal
 use Rattle.costs.proofs.add_branch.Goals.{After-v-1}
 
 -- the least cost with layer b
-least-is : (c : After-v-1) → c.least_of-least.result ≡ within c.args.w.now c.args.at c.args.s c.loop-b.b
+least-is : (c : After-v-1) → c.min-least.result ≡ within c.args.w.now c.args.at c.args.s c.loop-b.b
 least-is c =
-    c.least_of-least.ensures
+    c.min-least.ensures
     ∙ over-more c.args.w.now c.args.at c.args.s c.loop-b.b c.loop-b.least c.loop-b.invariant.0 c.loop-b.invariant.1
 
 pub loop-b-init : goal.loop-b-init

@@ -13,7 +13,7 @@ loop-i-init c =
 
 pub tile_row-requires : goal.tile_row-requires
 tile_row-requires c =
-    let g = c.args in record { charted = c.requires.charted; shape = shape-kept g.w.now c.loop-i.w g.m g.n g.layers c.loop-i.i c.requires.shape c.loop-i.invariant.3; le_i = (omega arith, omega arith) }
+    let g = c.args in record { shape = shape-kept g.w.now c.loop-i.w g.m g.n g.layers c.loop-i.i c.requires.shape c.loop-i.invariant.3; le_i = (omega arith, omega arith) }
 
 pub loop-i-preserved : goal.loop-i-preserved
 loop-i-preserved c =

@@ -8,6 +8,3 @@ use Rattle.costs.proofs.costs.Given as goal
 
 abbrev pub invariant-loop-i : goal.invariant-loop-i
 invariant-loop-i l = (1 ≤ l.i) × (l.i ≤ l.n) × (length l.w ≡ length l.initial.w) × RowsFrom l.initial.w l.w l.m l.n l.layers l.i
-
-abbrev pub decreases-loop-i : goal.decreases-loop-i
-decreases-loop-i l = l.i

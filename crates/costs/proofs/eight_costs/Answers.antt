@@ -43,7 +43,7 @@ pin_ends-e-requires c =
 
 pub pin_costs-requires : goal.pin_costs-requires
 pin_costs-requires c =
-    record { charted = c.requires.charted; at_bound = omega arith; at_in_bounds = omega arith; pins_bound = (mask (goal.at.pin_costs-requires c).After-pin_ends-e).small }
+    record { at_bound = omega arith; at_in_bounds = omega arith; pins_bound = (mask (goal.at.pin_costs-requires c).After-pin_ends-e).small }
 
 pub returns-then-e : goal.returns-then-e
 returns-then-e c =

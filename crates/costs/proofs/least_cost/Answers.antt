@@ -13,7 +13,7 @@ loop-l-init c =
 
 pub loop-l-preserved : goal.loop-l-preserved
 loop-l-preserved c =
-    (omega arith, c.least_of-least.ensures ∙ run-next illegal_cost (λ t. get_or c.args.c.now t 0) c.loop-l.l c.loop-l.least c.loop-l.invariant.1)
+    (omega arith, c.min-least.ensures ∙ run-next illegal_cost (λ t. get_or c.args.c.now t 0) c.loop-l.l c.loop-l.least c.loop-l.invariant.1)
 
 pub returns : goal.returns
 returns c =

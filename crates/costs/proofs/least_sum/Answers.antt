@@ -15,7 +15,7 @@ overflow_add-a c =
 
 pub loop-l-preserved : goal.loop-l-preserved
 loop-l-preserved c =
-    eight-more _ _ _ _ _ (omega arith) c.least_of.ensures c.loop-l.invariant
+    eight-more _ _ _ _ _ (omega arith) c.min.ensures c.loop-l.invariant
 
 pub returns : goal.returns
 returns c =

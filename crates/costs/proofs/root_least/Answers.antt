@@ -7,7 +7,7 @@ use Rattle.costs.proofs.root_least.Goals as goal
 
 pub tile_costs-c-requires : goal.tile_costs-c-requires
 tile_costs-c-requires c =
-    let r = root-asks c.args.w.now c.args.m c.args.n c.args.layers c.requires.shape c.at-end.result c.at-pins.result (omega arith) (omega arith) in record { charted = c.requires.charted; count_bound = r.0; layer_mask = r.1.0; le_layers = r.1.1.0; first_bound = r.1.1.1.0; count_in_bounds = r.1.1.1.1 }
+    let r = root-asks c.args.w.now c.args.m c.args.n c.args.layers c.requires.shape c.at-end.result c.at-pins.result (omega arith) (omega arith) in record { count_bound = r.0; layer_mask = r.1.0; le_layers = r.1.1.0; first_bound = r.1.1.1.0; count_in_bounds = r.1.1.1.1 }
 
 pub returns : goal.returns
 returns c =

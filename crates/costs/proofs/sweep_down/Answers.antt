@@ -7,12 +7,12 @@ use lib.ListN.{get_or}
 use Rattle.costs.specs.Sweeps.{swept_down}
 use Rattle.costs.proofs.Steps.{down-none, down-more, down-all, swept-down-none, swept-down-more, swept-down-top}
 use Rattle.costs.proofs.sweep_down.Goals as goal
-use Rattle.costs.proofs.sweep_down.Goals.{After-least_of-x}
+use Rattle.costs.proofs.sweep_down.Goals.{After-min-x}
 
 -- the cost with layer l - 1
-swept : (c : After-least_of-x) → c.least_of-x.result ≡ swept_down (λ t. get_or c.args.c.now t 0) c.args.layers (c.args.layers - (c.loop-l.l - 1))
+swept : (c : After-min-x) → c.min-x.result ≡ swept_down (λ t. get_or c.args.c.now t 0) c.args.layers (c.args.layers - (c.loop-l.l - 1))
 swept c =
-    c.least_of-x.ensures
+    c.min-x.ensures
     ∙ swept-down-more (λ t. get_or c.args.c.now t 0) c.args.layers c.loop-l.l c.loop-l.x _ (omega arith) (omega arith) c.loop-l.invariant.1
     (c.loop-l.invariant.2.rest (c.loop-l.l - 1) (omega arith))
 
@@ -31,7 +31,7 @@ overflow_add-x c =
 
 pub loop-l-preserved : goal.loop-l-preserved
 loop-l-preserved c =
-    (omega arith, swept (goal.at.loop-l-preserved c).After-least_of-x, down-more _ _ _ _ c.loop-l.l _ (omega arith) (omega arith) (omega arith) (swept (goal.at.loop-l-preserved c).After-least_of-x) c.loop-l.invariant.2)
+    (omega arith, swept (goal.at.loop-l-preserved c).After-min-x, down-more _ _ _ _ c.loop-l.l _ (omega arith) (omega arith) (omega arith) (swept (goal.at.loop-l-preserved c).After-min-x) c.loop-l.invariant.2)
 
 pub returns : goal.returns
 returns c =

@@ -9,6 +9,3 @@ use Rattle.costs.proofs.sweep_down.Given as goal
 
 abbrev pub invariant-loop-l : goal.invariant-loop-l
 invariant-loop-l l = (l.l ≤ l.layers) × (l.x ≡ swept_down (λ t. get_or l.initial.c t 0) l.layers (l.layers - l.l)) × FilledDown l.initial.c l.c (λ t. swept_down (λ u. get_or l.initial.c u 0) l.layers (l.layers - t)) l.layers l.l
-
-abbrev pub decreases-loop-l : goal.decreases-loop-l
-decreases-loop-l l = l.l

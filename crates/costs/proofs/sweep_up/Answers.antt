@@ -9,13 +9,13 @@ use Rattle.costs.specs.Rows.{illegal_cost}
 use Rattle.costs.specs.Sweeps.{swept_up}
 use Rattle.costs.proofs.Steps.{eight-none, eight-more, eight-all, up_small, swept-up-more}
 use Rattle.costs.proofs.sweep_up.Goals as goal
-use Rattle.costs.proofs.sweep_up.Goals.{After-least_of-x}
+use Rattle.costs.proofs.sweep_up.Goals.{After-min-x}
 
 -- the cost with layer l
-swept : (c : After-least_of-x) → c.least_of-x.result ≡ swept_up (λ t. get_or c.args.w.now (c.args.at + t) 0) (suc c.loop-l.l)
+swept : (c : After-min-x) → c.min-x.result ≡ swept_up (λ t. get_or c.args.w.now (c.args.at + t) 0) (suc c.loop-l.l)
 swept c =
-    c.least_of-x.ensures
-    ∙ ap (λ (t : ℕ). min t illegal_cost) c.least_of.ensures
+    c.min-x.ensures
+    ∙ ap (λ (t : ℕ). min t illegal_cost) c.min.ensures
     ∙ swept-up-more (λ t. get_or c.args.w.now (c.args.at + t) 0) c.loop-l.l c.loop-l.x c.loop-l.invariant.0
 
 pub loop-l-init : goal.loop-l-init
@@ -28,7 +28,7 @@ overflow_add-x c =
 
 pub loop-l-preserved : goal.loop-l-preserved
 loop-l-preserved c =
-    (rw (add-one c.loop-l.l) (swept (goal.at.loop-l-preserved c).After-least_of-x), eight-more _ _ _ _ _ (omega arith) (swept (goal.at.loop-l-preserved c).After-least_of-x) c.loop-l.invariant.1)
+    (rw (add-one c.loop-l.l) (swept (goal.at.loop-l-preserved c).After-min-x), eight-more _ _ _ _ _ (omega arith) (swept (goal.at.loop-l-preserved c).After-min-x) c.loop-l.invariant.1)
 
 pub returns : goal.returns
 returns c =

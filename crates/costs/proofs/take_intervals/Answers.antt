@@ -7,12 +7,12 @@ use lib.ListN.{get_or}
 use Rattle.costs.specs.Intervals.{least_end}
 use Rattle.costs.proofs.Steps.{down-none, down-more, end_none, end_more}
 use Rattle.costs.proofs.take_intervals.Goals as goal
-use Rattle.costs.proofs.take_intervals.Goals.{After-least_of}
+use Rattle.costs.proofs.take_intervals.Goals.{After-min}
 
 -- the least of the ends from b - 1 on
-least-is : (c : After-least_of) → c.least_of-least.result ≡ least_end (λ e. get_or c.args.v.now e 0) c.args.layers c.args.high (c.loop-b.b - 1)
+least-is : (c : After-min) → c.min-least.result ≡ least_end (λ e. get_or c.args.v.now e 0) c.args.layers c.args.high (c.loop-b.b - 1)
 least-is c =
-    c.least_of-least.ensures
+    c.min-least.ensures
     ∙ end_more (λ e. get_or c.args.v.now e 0) c.args.layers c.args.high c.loop-b.b c.loop-b.least c.ended.result
     (omega arith) c.loop-b.invariant.1 c.loop-b.invariant.2 c.ended.ensures
 
@@ -24,9 +24,9 @@ pub loop-b-preserved : goal.loop-b-preserved
 loop-b-preserved c = (
   omega arith,
   omega arith,
-  least-is (goal.at.loop-b-preserved c).After-least_of,
+  least-is (goal.at.loop-b-preserved c).After-min,
   down-more _ _ _ _ c.loop-b.b _ (omega arith) (omega arith) c.loop-b.invariant.1
-      (c.least_of.ensures ∙ ap₂ (λ (x y : ℕ). min x y) (c.loop-b.invariant.3.rest (c.loop-b.b - 1) (omega arith)) (least-is (goal.at.loop-b-preserved c).After-least_of))
+      (c.min.ensures ∙ ap₂ (λ (x y : ℕ). min x y) (c.loop-b.invariant.3.rest (c.loop-b.b - 1) (omega arith)) (least-is (goal.at.loop-b-preserved c).After-min))
       c.loop-b.invariant.3,
 )
 

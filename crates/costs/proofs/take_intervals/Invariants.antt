@@ -10,6 +10,3 @@ use Rattle.costs.proofs.take_intervals.Given as goal
 abbrev pub invariant-loop-b : goal.invariant-loop-b
 invariant-loop-b l = (l.s ≤ l.b) × (l.b ≤ l.layers) × (l.least ≡ least_end (λ e. get_or l.v e 0) l.layers l.high l.b)
     × FilledDown l.initial.c l.c (λ t. min (get_or l.initial.c t 0) (least_end (λ e. get_or l.v e 0) l.layers l.high t)) l.layers l.b
-
-abbrev pub decreases-loop-b : goal.decreases-loop-b
-decreases-loop-b l = l.b

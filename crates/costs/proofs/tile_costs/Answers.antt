@@ -9,7 +9,7 @@ use Rattle.costs.proofs.tile_costs.Goals as goal
 
 pub leaf_costs-requires : goal.leaf_costs-requires
 leaf_costs-requires c =
-    record { charted = c.requires.charted; pins_bound = c.requires.layer_mask.small }
+    c.requires.layer_mask.small
 
 pub returns-then-b-eq0 : goal.returns-then-b-eq0
 returns-then-b-eq0 c =
@@ -18,7 +18,7 @@ returns-then-b-eq0 c =
 
 pub eight_costs-requires : goal.eight_costs-requires
 eight_costs-requires c =
-    record { charted = c.requires.charted; le_k = (omega arith, omega arith); layer_mask = subst (λ (x : ℕ). LayerMask x c.args.pins) c.if-layers-eq8.true c.requires.layer_mask; first_bound = (omega arith, omega arith); k_in_bounds = omega arith }
+    record { le_k = (omega arith, omega arith); layer_mask = subst (λ (x : ℕ). LayerMask x c.args.pins) c.if-layers-eq8.true c.requires.layer_mask; first_bound = (omega arith, omega arith); k_in_bounds = omega arith }
 
 pub returns-then-layers-eq8 : goal.returns-then-layers-eq8
 returns-then-layers-eq8 c =

@@ -27,7 +27,7 @@ overflow_sub-b c =
 
 pub tile_costs-c-requires : goal.tile_costs-c-requires
 tile_costs-c-requires c =
-    let g = c.args in let r = row-asks g.w.now g.m g.n g.layers c.requires.shape g.i c.requires.le_i.0 c.requires.le_i.1 (first (goal.at.tile_costs-c-requires c).After-at-legal) (end (goal.at.tile_costs-c-requires c).After-at-legal) (pins (goal.at.tile_costs-c-requires c).After-at-legal) (omega arith) (omega arith) (omega arith) in record { charted = c.requires.charted; count_bound = r.0; layer_mask = r.1.0; le_layers = r.1.1.0; first_bound = r.1.1.1.0; count_in_bounds = r.1.1.1.1 }
+    let g = c.args in let r = row-asks g.w.now g.m g.n g.layers c.requires.shape g.i c.requires.le_i.0 c.requires.le_i.1 (first (goal.at.tile_costs-c-requires c).After-at-legal) (end (goal.at.tile_costs-c-requires c).After-at-legal) (pins (goal.at.tile_costs-c-requires c).After-at-legal) (omega arith) (omega arith) (omega arith) in record { count_bound = r.0; layer_mask = r.1.0; le_layers = r.1.1.0; first_bound = r.1.1.1.0; count_in_bounds = r.1.1.1.1 }
 
 pub returns : goal.returns
 returns c =

@@ -16,17 +16,17 @@ module _ (z : Start) where
   entry = triple z.args.e.x z.args.e.y z.args.e.third
 
   at : Placed z.args.g (triple z.args.e.x z.args.e.y z.args.e.third)
-  at = placed z.args.g z.requires.shaped entry z.requires.g_in_bounds.2 z.requires.g_in_bounds.1
+  at = placed z.args.g z.args.g.shaped entry z.requires.g_in_bounds.2 z.requires.g_in_bounds.1
 
 pub tile_at-here-requires : goal.tile_at-here-requires
 tile_at-here-requires c =
-    record { shaped = c.requires.shaped; x_lt_w = ((at (goal.at.tile_at-here-requires c).Start).column, (at (goal.at.tile_at-here-requires c).Start).row) }
+    record { x_lt_w = ((at (goal.at.tile_at-here-requires c).Start).column, (at (goal.at.tile_at-here-requires c).Start).row) }
 
 pub returns-then-keeps : goal.returns-then-keeps
 returns-then-keeps c ps es drawn =
     let e = edge_of c.args.g (entry (goal.at.returns-then-keeps c).Start) in
     let lo = lo_of c.args.g.w c.args.g.h e in
-    c.lower.ensures
+    c.min.ensures
     ∙ ap (min c.args.low) (c.tile_at-here.ensures.0 ∙ sym (at (goal.at.returns-then-keeps c).Start).starts)
     ∙ ap (λ (q : Bool). cond q (min c.args.low lo) c.args.low) (sym c.if-keeps.true ∙ c.keeps.ensures ps es drawn)
 

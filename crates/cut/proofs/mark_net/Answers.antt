@@ -27,22 +27,21 @@ module _ (j : After-join_entries) where
 
 pub put_pins-low-requires : goal.put_pins-low-requires
 put_pins-low-requires c =
-    let k = c.requires.ring_there in record { shaped = c.requires.shaped; g_in_bounds = (c.requires.g_in_bounds.0, c.requires.g_in_bounds.1); pins_there = pins-there c.args.s.now c.args.g c.requires.shaped c.args.pins c.args.edges k.net k.lines }
+    let k = c.requires.ring_there in record { g_in_bounds = (c.requires.g_in_bounds.0, c.requires.g_in_bounds.1); pins_there = pins-there c.args.s.now c.args.g c.args.g.shaped c.args.pins c.args.edges k.net k.lines }
 
 pub join_entries-requires : goal.join_entries-requires
 join_entries-requires c =
     let x = c.args in
     let k = c.requires.ring_there in record {
-      shaped = c.requires.shaped;
       g_in_bounds = (
         omega (arith, c.requires.g_in_bounds.0, (put (goal.at.join_entries-requires c).After-put_pins-low).out.long),
         c.requires.g_in_bounds.1,
-        fits-pins x.s.now x.g c.requires.shaped x.pins x.edges k.net k.lines x.stamp x.w.now (w₁ (goal.at.join_entries-requires c).After-put_pins-low) c.requires.g_in_bounds.0 c.requires.g_in_bounds.2 c.requires.g_in_bounds.3 c.put_pins-low.result (put (goal.at.join_entries-requires c).After-put_pins-low),
-        older-links x.s.now x.g c.requires.shaped x.pins x.edges k.net k.lines x.stamp x.w.now (w₁ (goal.at.join_entries-requires c).After-put_pins-low) c.requires.g_in_bounds.0 c.requires.g_in_bounds.2 c.requires.g_in_bounds.3 c.put_pins-low.result (put (goal.at.join_entries-requires c).After-put_pins-low),
+        fits-pins x.s.now x.g c.args.g.shaped x.pins x.edges k.net k.lines x.stamp x.w.now (w₁ (goal.at.join_entries-requires c).After-put_pins-low) c.requires.g_in_bounds.0 c.requires.g_in_bounds.2 c.requires.g_in_bounds.3 c.put_pins-low.result (put (goal.at.join_entries-requires c).After-put_pins-low),
+        older-links x.s.now x.g c.args.g.shaped x.pins x.edges k.net k.lines x.stamp x.w.now (w₁ (goal.at.join_entries-requires c).After-put_pins-low) c.requires.g_in_bounds.0 c.requires.g_in_bounds.2 c.requires.g_in_bounds.3 c.put_pins-low.result (put (goal.at.join_entries-requires c).After-put_pins-low),
       );
       edges_there = (
-        entries-there x.s.now x.g c.requires.shaped x.pins x.edges k.net k.lines,
-        some-entry x.s.now x.g c.requires.shaped x.pins x.edges k.net k.lines,
+        entries-there x.s.now x.g c.args.g.shaped x.pins x.edges k.net k.lines,
+        some-entry x.s.now x.g c.args.g.shaped x.pins x.edges k.net k.lines,
       );
     }
 
@@ -50,14 +49,13 @@ pub strip_net-requires : goal.strip_net-requires
 strip_net-requires c =
     let x = c.args in
     let k = c.requires.ring_there in record {
-      shaped = c.requires.shaped;
       g_in_bounds = (
         omega (arith, c.requires.g_in_bounds.0, (put (goal.at.strip_net-requires c).After-put_pins-low).out.long, c.join_entries.ensures.w_len_unchanged),
-        strippable x.s.now x.g c.requires.shaped x.pins x.edges k.net k.lines x.stamp x.w.now (w₁ (goal.at.strip_net-requires c).After-put_pins-low) c.requires.g_in_bounds.0 c.requires.g_in_bounds.2 c.requires.g_in_bounds.3 c.put_pins-low.result (put (goal.at.strip_net-requires c).After-put_pins-low) (w₂ (goal.at.strip_net-requires c).After-join_entries) (joined (goal.at.strip_net-requires c).After-join_entries),
+        strippable x.s.now x.g c.args.g.shaped x.pins x.edges k.net k.lines x.stamp x.w.now (w₁ (goal.at.strip_net-requires c).After-put_pins-low) c.requires.g_in_bounds.0 c.requires.g_in_bounds.2 c.requires.g_in_bounds.3 c.put_pins-low.result (put (goal.at.strip_net-requires c).After-put_pins-low) (w₂ (goal.at.strip_net-requires c).After-join_entries) (joined (goal.at.strip_net-requires c).After-join_entries),
       );
       edges_there = (
-        entries-there x.s.now x.g c.requires.shaped x.pins x.edges k.net k.lines,
-        some-entry x.s.now x.g c.requires.shaped x.pins x.edges k.net k.lines,
+        entries-there x.s.now x.g c.args.g.shaped x.pins x.edges k.net k.lines,
+        some-entry x.s.now x.g c.args.g.shaped x.pins x.edges k.net k.lines,
       );
     }
 
@@ -65,5 +63,5 @@ pub returns : goal.returns
 returns c =
     let x = c.args in
     λ n at.
-    cut-marked x.s.now x.g c.requires.shaped x.pins x.edges n at x.stamp x.w.now (w₁ (goal.at.returns c).After-put_pins-low) c.requires.g_in_bounds.0 c.requires.g_in_bounds.2 c.requires.g_in_bounds.3 c.put_pins-low.result (c.put_pins-low.ensures n at.pins)
+    cut-marked x.s.now x.g c.args.g.shaped x.pins x.edges n at x.stamp x.w.now (w₁ (goal.at.returns c).After-put_pins-low) c.requires.g_in_bounds.0 c.requires.g_in_bounds.2 c.requires.g_in_bounds.3 c.put_pins-low.result (c.put_pins-low.ensures n at.pins)
     (w₂ (goal.at.returns c).After-join_entries) (c.join_entries.ensures.joined n at.edges) c.strip_net.new.w (c.strip_net.ensures.stripped n at.edges) c.strip_net.ensures.outside

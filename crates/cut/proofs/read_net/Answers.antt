@@ -13,17 +13,16 @@ module _ (m : After-mark_net-low) where
 
 pub mark_net-low-requires : goal.mark_net-low-requires
 mark_net-low-requires c =
-    let r = c.requires.g_in_bounds in record { shaped = c.requires.shaped; g_in_bounds = (omega (arith, r.0), r.1, r.2, r.3); ring_there = c.requires.ring_there }
+    let r = c.requires.g_in_bounds in record { g_in_bounds = (omega (arith, r.0), r.1, r.2, r.3); ring_there = c.requires.ring_there }
 
 pub list_entries-requires : goal.list_entries-requires
 list_entries-requires c =
     let x = c.args in
     let k = c.requires.ring_there in record {
-      shaped = c.requires.shaped;
       g_in_bounds = (omega (arith, c.requires.g_in_bounds.0, (marked (goal.at.list_entries-requires c).After-mark_net-low).around.long), record { pins = k.net.pins; edges = k.net.edges; drawn = (marked (goal.at.list_entries-requires c).After-mark_net-low).drawn });
       edges_there = (
-        entries-there x.s.now x.g c.requires.shaped x.pins x.edges k.net k.lines,
-        some-entry x.s.now x.g c.requires.shaped x.pins x.edges k.net k.lines,
+        entries-there x.s.now x.g c.args.g.shaped x.pins x.edges k.net k.lines,
+        some-entry x.s.now x.g c.args.g.shaped x.pins x.edges k.net k.lines,
       );
     }
 
@@ -31,5 +30,5 @@ pub returns : goal.returns
 returns c =
     let x = c.args in
     λ j n at width height.
-    ring-read x.s.now x.g c.requires.shaped x.pins x.edges j n at x.stamp x.w.now c.mark_net-low.new.w c.list_entries.new.w c.mark_net-low.result (c.mark_net-low.ensures n at) c.list_entries.result
+    ring-read x.s.now x.g c.args.g.shaped x.pins x.edges j n at x.stamp x.w.now c.mark_net-low.new.w c.list_entries.new.w c.mark_net-low.result (c.mark_net-low.ensures n at) c.list_entries.result
     (c.list_entries.ensures.listing n at.edges n.pins n.edges (c.mark_net-low.ensures n at).drawn) width height

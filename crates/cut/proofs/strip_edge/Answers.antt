@@ -18,7 +18,7 @@ module _ (z : Start) where
   entry = triple z.args.e.x z.args.e.y z.args.e.third
 
   at : Placed z.args.g (triple z.args.e.x z.args.e.y z.args.e.third)
-  at = placed z.args.g z.requires.shaped entry z.requires.a_len.2 z.requires.a_len.1
+  at = placed z.args.g z.args.g.shaped entry z.requires.a_len.2 z.requires.a_len.1
 
 -- its two tiles
 module _ (o : After-way_out-out) where
@@ -27,19 +27,19 @@ module _ (o : After-way_out-out) where
 
   there-is : o.way_out-out.result.tile ≡ hi_of o.args.g.w o.args.g.h (edge_of o.args.g (entry (goal.at.After-way_out-out o).Start))
   there-is =
-      ends_there o.args.g o.requires.shaped (entry (goal.at.After-way_out-out o).Start) o.requires.a_len.2 o.requires.a_len.1 o.tile_at-here.result o.tile_at-here.ensures.0 o.way_out-out.result o.way_out-out.ensures
+      ends_there o.args.g o.args.g.shaped (entry (goal.at.After-way_out-out o).Start) o.requires.a_len.2 o.requires.a_len.1 o.tile_at-here.result o.tile_at-here.ensures.0 o.way_out-out.result o.way_out-out.ensures
 
 pub tile_at-here-requires : goal.tile_at-here-requires
 tile_at-here-requires c =
-    record { shaped = c.requires.shaped; x_lt_w = ((at (goal.at.tile_at-here-requires c).Start).column, (at (goal.at.tile_at-here-requires c).Start).row) }
+    record { x_lt_w = ((at (goal.at.tile_at-here-requires c).Start).column, (at (goal.at.tile_at-here-requires c).Start).row) }
 
 pub strip_from-requires : goal.strip_from-requires
 strip_from-requires c =
-    record { shaped = c.requires.shaped; a_len = (c.requires.a_len.0, c.tile_at-here.ensures.1); strippable = c.requires.strippable }
+    record { a_len = (c.requires.a_len.0, c.tile_at-here.ensures.1); strippable = c.requires.strippable }
 
 pub strip_from-requires-2 : goal.strip_from-requires-2
 strip_from-requires-2 c =
-    let s = c.strip_from.ensures in record { shaped = c.requires.shaped; a_len = (s.long ∙ c.requires.a_len.0, omega (arith, there-is (goal.at.strip_from-requires-2 c).After-way_out-out, (at (goal.at.strip_from-requires-2 c).Start).end_in)); strippable = still-strippable c.args.g c.args.stamp (c.tile_at-here.result ∷ []) c.args.a.now c.strip_from.new.a s c.requires.strippable }
+    let s = c.strip_from.ensures in record { a_len = (s.long ∙ c.requires.a_len.0, omega (arith, there-is (goal.at.strip_from-requires-2 c).After-way_out-out, (at (goal.at.strip_from-requires-2 c).Start).end_in)); strippable = still-strippable c.args.g c.args.stamp (c.tile_at-here.result ∷ []) c.args.a.now c.strip_from.new.a s c.requires.strippable }
 
 pub shape_of-a : goal.shape_of-a
 shape_of-a c =

@@ -5,6 +5,3 @@ use Rattle.cut.proofs.strip_from.Given as goal
 
 abbrev pub invariant-loop-left : goal.invariant-loop-left
 invariant-loop-left l = Going l.g l.stamp l.t l.initial.a l.a l.here l.left
-
-abbrev pub decreases-loop-left : goal.decreases-loop-left
-decreases-loop-left l = l.left

@@ -14,7 +14,7 @@ use Rattle.cut.proofs.strip_net.Goals as goal
 pub strip_entries-requires : goal.strip_entries-requires
 strip_entries-requires c =
     let x = c.args in
-    let lent = lent-part (tiles_at x.g) x.g.t x.w.now c.tiles_at-from.result c.links_at-to.result c.tiles_at-from.ensures.value c.links_at-to.ensures.value in record { shaped = c.requires.shaped; a_len = (ap length lent ∙ part-long (tiles_at x.g) x.g.t x.w.now (omega (arith, c.requires.g_in_bounds.0)), subst (Strippable x.g x.stamp) (sym lent) c.requires.g_in_bounds.1); edges_there = c.requires.edges_there }
+    let lent = lent-part (tiles_at x.g) x.g.t x.w.now c.tiles_at-from.result c.links_at-to.result c.tiles_at-from.ensures.value c.links_at-to.ensures.value in record { a_len = (ap length lent ∙ part-long (tiles_at x.g) x.g.t x.w.now (omega (arith, c.requires.g_in_bounds.0)), subst (Strippable x.g x.stamp) (sym lent) c.requires.g_in_bounds.1); edges_there = c.requires.edges_there }
 
 pub returns : goal.returns
 returns c =

@@ -38,10 +38,6 @@ returns-then-low_in-gt0 c =
     let x = c.args in
     sym (c.loop-i.invariant.1 ∙ there x.table.now c.loop-i.i x.n c.loop-i-test.true (omega (arith, c.if-low_in-gt0.true, c.low_in.ensures.value)))
 
-pub loop-i-smaller : goal.loop-i-smaller
-loop-i-smaller c =
-    omega (arith, c.loop-i-test.true)
-
 pub loop-i-preserved : goal.loop-i-preserved
 loop-i-preserved c =
     let x = c.args in

@@ -10,6 +10,3 @@ use Rattle.directives.proofs.any_low.Given as goal
 
 abbrev pub invariant-loop-i : goal.invariant-loop-i
 invariant-loop-i l = (l.i ≤ l.n) × (any_low l.table l.n ≡ any (λ i. ltb 0 (low_in l.table i)) (up_from l.i (l.n - l.i)))
-
-abbrev pub decreases-loop-i : goal.decreases-loop-i
-decreases-loop-i l = l.n - l.i

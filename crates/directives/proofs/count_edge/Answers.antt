@@ -5,7 +5,7 @@ use mathlib.Core.Path.{◌≡◌}
 use Prim.Native.Nat.{ℕ, ◌+◌, ◌-◌, ◌<◌}
 use native.Mathlib.Omega.{arith}
 use lib.ListN.{length, get_or, set}
-use Rattle.layout.specs.declared.Shape.{Shape}
+use Rattle.layout.specs.declared.shape.Shape.{Shape}
 use Rattle.directives.specs.Counts.{cell, one_more}
 use Rattle.directives.specs.Marked.{cell-inside}
 use Rattle.directives.proofs.count_edge.Goals as goal
@@ -27,7 +27,7 @@ module _ (c : After-edge_at) where
   inside = omega (arith, at-is, cell-inside c.args.g c.args.edge c.args.low c.requires.edge_lt_e.0 c.requires.edge_lt_e.1 c.requires.edge_lt_e.2, c.requires.edge_lt_e.3)
 
   small : at < 1048576
-  small = omega (arith, at-is, cell-inside c.args.g c.args.edge c.args.low c.requires.edge_lt_e.0 c.requires.edge_lt_e.1 c.requires.edge_lt_e.2, c.requires.shaped.e_most)
+  small = omega (arith, at-is, cell-inside c.args.g c.args.edge c.args.low c.requires.edge_lt_e.0 c.requires.edge_lt_e.1 c.requires.edge_lt_e.2, c.args.g.shaped.e_most)
 
   few : get_or c.args.w.now at 0 + 1 < 4294967296
   few = let e = at-is in rw e (omega (arith, c.requires.edge_lt_e.4))

@@ -1,85 +1,55 @@
--- `count_entries` meets its contract. The loop's invariant: the entries before the place at hand are counted.
+-- `count_entries` meets its contract. The loop's invariant: the entries that came are counted.
 -- Assumes nothing.
-use mathlib.Core.List.{List, [], ◌∷◌, ◌++◌}
-use mathlib.Core.Path.{◌≡◌}
 use Prim.Native.Nat.{ℕ, ◌≤◌, ◌<◌}
 use native.Mathlib.Omega.{arith}
 use lib.ListN.{length}
-use Rattle.known.specs.Taken.{taken_start, taken-short, taken-inside, taken-new, taken-last, taken_more, taken-place}
+use Rattle.known.specs.Taken.{taken_start, taken_all, taken-inside, taken-new, taken_more}
 use Rattle.layout.specs.Areas.{demand_at}
 use Rattle.scan.specs.Pins.{triple}
 use Rattle.ways.specs.Entry.{edge_of, placed}
-use Rattle.directives.specs.Counting.{AllCounted, all_none, next-room, all_more}
+use Rattle.directives.specs.Counting.{all_none, next-room, all_more}
 use Rattle.directives.proofs.count_entries.Goals as goal
-use Rattle.directives.proofs.count_entries.Goals.{After-count_entry, After-edge_at-e, At-loop-g}
+use Rattle.directives.proofs.count_entries.Goals.{In-Some}
 
--- the entry at hand
-module _ (l : At-loop-g) where
-  abbrev P : List ℕ → Type 0
-  P xs = AllCounted l.args.g l.args.low l.args.w.now xs l.loop-g.w
-
--- its edge, inside the grid
-module _ (e : After-edge_at-e) where
+-- the edge of the entry that came, inside the grid
+module _ (c : In-Some) where
   abbrev edge : ℕ
-  edge = let k = e.edge_at-e.result in edge_of e.args.g (triple k.x k.y k.third)
+  edge = let k = c.in-Some.e in edge_of c.args.g (triple k.x k.y k.third)
 
-  known : edge < e.args.g.e
+  known : edge < c.args.g.e
   known =
-      let k = e.edge_at-e.result in
-      let h = taken-inside e.args.s.now e.args.g e.args.at e.requires.edges_there.0 e.requires.shaped e.loop-g.i (P (goal.at.After-edge_at-e e).At-loop-g) e.loop-g.invariant k e.edge_at-e.ensures in
-      (placed e.args.g e.requires.shaped (triple k.x k.y k.third) h.1 h.0).known
+      let k = c.in-Some.e in
+      let h = taken-inside c.loop-e.invariant.2 k c.next.new.self c.in-Some.ensures.steps in
+      (placed c.args.g c.args.g.shaped (triple k.x k.y k.third) h.1 h.0).known
 
-  room : demand_at e.args.g ≤ length e.loop-g.w
-  room = omega (arith, e.requires.le_low.2, e.loop-g.invariant.holds.some.out.long)
+  room : demand_at c.args.g ≤ length c.loop-e.w
+  room = omega (arith, c.requires.le_low.2, c.loop-e.invariant.2.holds.some.out.long)
 
--- it is counted
-module _ (d : After-count_entry) where
-  abbrev Q : List ℕ → Type 0
-  Q xs = AllCounted d.args.g d.args.low d.args.w.now xs d.count_entry.new.w
-
-  one_more : Q (d.loop-g.invariant.so_far ++ (edge (goal.at.After-count_entry d).After-edge_at-e ∷ []))
-  one_more =
-      all_more d.args.g d.args.low d.requires.le_low.0 d.requires.le_low.1 d.args.w.now d.loop-g.invariant.so_far d.loop-g.w d.loop-g.invariant.holds (edge (goal.at.After-count_entry d).After-edge_at-e) (known (goal.at.After-count_entry d).After-edge_at-e)
-      (room (goal.at.After-count_entry d).After-edge_at-e) d.count_entry.new.w d.count_entry.ensures
-
-  long : length d.count_entry.new.w ≡ length d.args.w.now
-  long = one_more.some.out.long
-
-pub loop-g-init : goal.loop-g-init
-loop-g-init c =
-    let x = c.args in
-    taken_start x.s.now x.g x.at c.requires.edges_there.0 c.requires.edges_there.1 (λ xs. AllCounted x.g x.low x.w.now xs x.w.now)
-    (all_none x.g x.low c.requires.le_low.0 c.requires.le_low.1 x.w.now)
-
-pub edge_at-e-requires : goal.edge_at-e-requires
-edge_at-e-requires c =
-    taken-short c.args.s.now c.args.g c.args.at c.requires.edges_there.0 c.requires.shaped c.loop-g.i (P (goal.at.edge_at-e-requires c).At-loop-g) c.loop-g.invariant
+pub loop-e-init : goal.loop-e-init
+loop-e-init c =
+    taken_start c.args.g.shaped c.requires.edges_there.0 c.requires.edges_there.1 (rw c.into_iter-e-iterator.ensures.into_iter_gives c.edges_from-e-items.ensures)
+    (all_none c.args.g c.args.low c.requires.le_low.0 c.requires.le_low.1 c.args.w.now)
 
 pub count_entry-requires : goal.count_entry-requires
 count_entry-requires c =
     let x = c.args in
-    let h = taken-inside x.s.now x.g x.at c.requires.edges_there.0 c.requires.shaped c.loop-g.i (P (goal.at.count_entry-requires c).At-loop-g) c.loop-g.invariant c.edge_at-e.result c.edge_at-e.ensures in
-    let new = taken-new x.s.now x.g x.at c.requires.edges_there.0 c.requires.shaped c.loop-g.i (P (goal.at.count_entry-requires c).At-loop-g) c.loop-g.invariant c.edge_at-e.result c.edge_at-e.ensures in record { shaped = c.requires.shaped; le_low = (c.requires.le_low.0, c.requires.le_low.1, room (goal.at.count_entry-requires c).After-edge_at-e, h.0, h.1); low_bound = next-room x.g x.low c.requires.le_low.0 c.requires.le_low.1 x.w.now c.loop-g.invariant.so_far c.loop-g.w c.loop-g.invariant.holds.some (edge (goal.at.count_entry-requires c).After-edge_at-e) new (known (goal.at.count_entry-requires c).After-edge_at-e) c.requires.le_low.3 }
-
-pub shape_of-w-then-e : goal.shape_of-w-then-e
-shape_of-w-then-e c =
-    long (goal.at.shape_of-w-then-e c).After-count_entry
-
-pub returns-then-e : goal.returns-then-e
-returns-then-e c =
-    let x = c.args in record {
-      w_after = (λ n there.
-          (taken-last x.s.now x.g x.at c.requires.edges_there.0 c.requires.shaped c.loop-g.i (P (goal.at.returns-then-e c).At-loop-g) c.loop-g.invariant c.edge_at-e.result c.edge_at-e.ensures c.if-e.true (Q (goal.at.returns-then-e c).After-count_entry) (one_more (goal.at.returns-then-e c).After-count_entry) n there).w_is);
-      w_len_unchanged = long (goal.at.returns-then-e c).After-count_entry;
+    let l = c.loop-e.invariant.2 in
+    let in_grid = (goal.at.count_entry-requires c).In-Some in
+    let h = taken-inside l c.in-Some.e c.next.new.self c.in-Some.ensures.steps in
+    let new = taken-new l c.in-Some.e c.next.new.self c.in-Some.ensures.steps c.requires.edges_there.0 in
+    record {
+      le_low = (c.requires.le_low.0, c.requires.le_low.1, room in_grid, h.0, h.1);
+      low_bound = next-room x.g x.low c.requires.le_low.0 c.requires.le_low.1 x.w.now l.so_far c.loop-e.w l.holds.some (edge in_grid) new (known in_grid) c.requires.le_low.3;
     }
 
-pub loop-g-smaller : goal.loop-g-smaller
-loop-g-smaller c =
+pub loop-e-preserved : goal.loop-e-preserved
+loop-e-preserved c =
     let x = c.args in
-    let t = taken-place x.s.now x.g x.at c.requires.edges_there.0 c.requires.shaped c.loop-g.i (P (goal.at.loop-g-smaller c).At-loop-g) c.loop-g.invariant c.edge_at-e.result c.edge_at-e.ensures c.if-e.false in
-    omega (arith, t.0, t.1)
+    let l = c.loop-e.invariant.2 in
+    let in_grid = (goal.at.loop-e-preserved c).In-Some in
+    taken_more l c.in-Some.e c.next.new.self c.in-Some.ensures.steps x.g.shaped
+    (all_more x.g x.low c.requires.le_low.0 c.requires.le_low.1 x.w.now l.so_far c.loop-e.w l.holds (edge in_grid) (known in_grid) (room in_grid) c.count_entry.new.w c.count_entry.ensures)
 
-pub loop-g-preserved : goal.loop-g-preserved
-loop-g-preserved c =
-    let x = c.args in
-    taken_more x.s.now x.g x.at c.requires.edges_there.0 c.requires.shaped c.loop-g.i (P (goal.at.loop-g-preserved c).At-loop-g) c.loop-g.invariant c.edge_at-e.result c.edge_at-e.ensures c.if-e.false (Q (goal.at.loop-g-preserved c).After-count_entry) (one_more (goal.at.loop-g-preserved c).After-count_entry)
+pub returns-clause-w_after : goal.returns-clause-w_after
+returns-clause-w_after c =
+    λ n there. (taken_all c.loop-e.invariant.2 c.in-None.ensures.steps n there).w_is

@@ -31,11 +31,11 @@ module _ (d : After-count_entry) where
 
 pub keeps-requires : goal.keeps-requires
 keeps-requires c =
-    record { shaped = c.requires.shaped; g_in_bounds = (c.requires.le_low.2, c.requires.le_low.3, c.requires.le_low.4) }
+    record { g_in_bounds = (c.requires.le_low.2, c.requires.le_low.3, c.requires.le_low.4) }
 
 pub count_entry-requires : goal.count_entry-requires
 count_entry-requires c =
-    record { shaped = c.requires.shaped; le_low = (c.requires.le_low.0, c.requires.le_low.1, room (goal.at.count_entry-requires c).After-keeps, c.requires.le_low.3, c.requires.le_low.4); low_bound = c.requires.low_bound }
+    record { le_low = (c.requires.le_low.0, c.requires.le_low.1, room (goal.at.count_entry-requires c).After-keeps, c.requires.le_low.3, c.requires.le_low.4); low_bound = c.requires.low_bound }
 
 pub shape_of-w-then-keeps : goal.shape_of-w-then-keeps
 shape_of-w-then-keeps c =
@@ -46,7 +46,7 @@ returns-then-keeps c =
     let x = c.args in record {
       by_index = (λ w₀ xs so_far.
           kept-counted x.g x.low c.requires.le_low.0 c.requires.le_low.1 w₀ x.stamp xs x.w.now so_far (edge_of x.g (entry (goal.at.returns-then-keeps c).After-keeps)) c.keeps.result c.keeps.ensures c.if-keeps.true
-          (placed x.g c.requires.shaped (entry (goal.at.returns-then-keeps c).After-keeps) c.requires.le_low.4 c.requires.le_low.3).known (room (goal.at.returns-then-keeps c).After-keeps) c.count_entry.new.w c.count_entry.ensures);
+          (placed x.g c.args.g.shaped (entry (goal.at.returns-then-keeps c).After-keeps) c.requires.le_low.4 c.requires.le_low.3).known (room (goal.at.returns-then-keeps c).After-keeps) c.count_entry.new.w c.count_entry.ensures);
       w_len_unchanged = long (goal.at.returns-then-keeps c).After-count_entry;
     }
 

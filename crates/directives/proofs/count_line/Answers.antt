@@ -15,7 +15,7 @@ bounds-s-at c =
 
 pub count_entries-requires : goal.count_entries-requires
 count_entries-requires c =
-    record { shaped = c.requires.shaped; le_low = c.requires.le_low; edges_there = (c.requires.edges_there, c.if-s-at-ne10.true) }
+    record { le_low = c.requires.le_low; edges_there = (c.requires.edges_there, c.if-s-at-ne10.true) }
 
 pub returns-then-s-at-ne10 : goal.returns-then-s-at-ne10
 returns-then-s-at-ne10 c =

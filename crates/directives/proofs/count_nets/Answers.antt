@@ -19,7 +19,7 @@ module _ (m : At-loop-i) where
 pub loop-i-init : goal.loop-i-init
 loop-i-init c =
     let x = c.args in
-    counted_start x.s.now x.g c.requires.shaped x.table.now x.n x.w.now c.requires.g_in_bounds.1
+    counted_start x.s.now x.g c.args.g.shaped x.table.now x.n x.w.now c.requires.g_in_bounds.1
 
 pub overflow_mul-n : goal.overflow_mul-n
 overflow_mul-n c =
@@ -36,7 +36,7 @@ overflow_cast-n c =
 pub count_net-requires : goal.count_net-requires
 count_net-requires c =
     let x = c.args in
-    let t = next-stamp x.s.now x.g c.requires.shaped x.table.now x.n x.w.now c.loop-i.i c.loop-i.w c.loop-i.invariant (room (goal.at.count_net-requires c).At-loop-i) c.requires.asked_some c.loop-i-test.true in record { shaped = c.requires.shaped; g_in_bounds = (omega (arith, c.requires.g_in_bounds.0, c.loop-i.invariant.long), t.0, t.1); some_net = next-there x.s.now x.g c.requires.shaped x.table.now x.n x.w.now c.loop-i.i c.loop-i.w c.loop-i.invariant (room (goal.at.count_net-requires c).At-loop-i) c.requires.asked_some c.loop-i-test.true }
+    let t = next-stamp x.s.now x.g c.args.g.shaped x.table.now x.n x.w.now c.loop-i.i c.loop-i.w c.loop-i.invariant (room (goal.at.count_net-requires c).At-loop-i) c.requires.asked_some c.loop-i-test.true in record { g_in_bounds = (omega (arith, c.requires.g_in_bounds.0, c.loop-i.invariant.long), t.0, t.1); some_net = next-there x.s.now x.g c.args.g.shaped x.table.now x.n x.w.now c.loop-i.i c.loop-i.w c.loop-i.invariant (room (goal.at.count_net-requires c).At-loop-i) c.requires.asked_some c.loop-i-test.true }
 
 pub loop-i-smaller : goal.loop-i-smaller
 loop-i-smaller c =
@@ -45,7 +45,7 @@ loop-i-smaller c =
 pub loop-i-preserved : goal.loop-i-preserved
 loop-i-preserved c =
     let x = c.args in
-    counted_next x.s.now x.g c.requires.shaped x.table.now x.n x.w.now c.loop-i.i c.loop-i.w c.loop-i.invariant (room (goal.at.loop-i-preserved c).At-loop-i) c.loop-i-test.true
+    counted_next x.s.now x.g c.args.g.shaped x.table.now x.n x.w.now c.loop-i.i c.loop-i.w c.loop-i.invariant (room (goal.at.loop-i-preserved c).At-loop-i) c.loop-i-test.true
     c.count_net.new.w c.count_net.ensures.w_len_unchanged c.count_net.ensures.remarked
 
 pub shape_of-w : goal.shape_of-w
@@ -54,4 +54,4 @@ shape_of-w c =
 
 pub returns : goal.returns
 returns c =
-    let x = c.args in record { remarked = counted-done x.s.now x.g c.requires.shaped x.table.now x.n x.w.now c.loop-i.i c.loop-i.w c.loop-i.invariant (room (goal.at.returns c).At-loop-i) c.loop-i-test.false; w_len_unchanged = c.loop-i.invariant.long }
+    let x = c.args in record { remarked = counted-done x.s.now x.g c.args.g.shaped x.table.now x.n x.w.now c.loop-i.i c.loop-i.w c.loop-i.invariant (room (goal.at.returns c).At-loop-i) c.loop-i-test.false; w_len_unchanged = c.loop-i.invariant.long }

@@ -51,7 +51,7 @@ module _ (i : In-loop-t) where
   small = few (goal.at.In-loop-t i).After-loads_at i.loop-t.t i.loop-t-test.true f.high
 
   bounded : (i.loop-t.room ≤ 8 * most_capacity) × (i.loop-t.excess ≤ 8 * most_nets)
-  bounded = let k = i.requires.shaped.k_most in (omega (arith, f.few_room, k), omega (arith, f.few_excess, k))
+  bounded = let k = i.args.g.shaped.k_most in (omega (arith, f.few_room, k), omega (arith, f.few_excess, k))
 
 pub overflow_add-needs : goal.overflow_add-needs
 overflow_add-needs c =
@@ -59,11 +59,7 @@ overflow_add-needs c =
 
 pub loop-t-init : goal.loop-t-init
 loop-t-init c =
-    falling-start (w (goal.at.loop-t-init c).After-loads_at) (caps (goal.at.loop-t-init c).After-loads_at) (nets (goal.at.loop-t-init c).After-loads_at) c.args.g.k (omega (arith, c.requires.shaped.k_least))
-
-pub overflow_sub-t : goal.overflow_sub-t
-overflow_sub-t c =
-    omega (arith, c.loop-t-test.true)
+    falling-start (w (goal.at.loop-t-init c).After-loads_at) (caps (goal.at.loop-t-init c).After-loads_at) (nets (goal.at.loop-t-init c).After-loads_at) c.args.g.k (omega (arith, c.args.g.shaped.k_least))
 
 pub overflow_add-room : goal.overflow_add-room
 overflow_add-room c =
@@ -99,18 +95,14 @@ overflow_add-demand-in-loop-t c =
 
 pub overflow_add-excess : goal.overflow_add-excess
 overflow_add-excess c =
-    omega (arith, small (goal.at.overflow_add-excess c).In-loop-t, bounded (goal.at.overflow_add-excess c).In-loop-t, (f (goal.at.overflow_add-excess c).In-loop-t).few_served, c.excess_of-excess.ensures)
-
-pub loop-t-smaller : goal.loop-t-smaller
-loop-t-smaller c =
-    omega (arith, c.loop-t-test.true)
+    omega (arith, small (goal.at.overflow_add-excess c).In-loop-t, bounded (goal.at.overflow_add-excess c).In-loop-t, (f (goal.at.overflow_add-excess c).In-loop-t).few_served, c.saturating_sub-excess.ensures)
 
 pub loop-t-preserved : goal.loop-t-preserved
 loop-t-preserved c =
     falling-next (w (goal.at.loop-t-preserved c).After-loads_at) (caps (goal.at.loop-t-preserved c).After-loads_at) (nets (goal.at.loop-t-preserved c).After-loads_at) c.args.g.k c.loop-t.room c.loop-t.served c.loop-t.excess c.loop-t.t (f (goal.at.loop-t-preserved c).In-loop-t) c.loop-t-test.true (small (goal.at.loop-t-preserved c).In-loop-t).0 (small (goal.at.loop-t-preserved c).In-loop-t).1
-    _ _ c.excess_of-excess.result c.smaller-served.result refl refl c.excess_of-excess.ensures c.smaller-served.ensures
+    _ _ c.saturating_sub-excess.result c.min-served.result refl refl c.saturating_sub-excess.ensures c.min-served.ensures
 
 pub returns : goal.returns
 returns c =
     let d = falling-done (w (goal.at.returns c).After-loads_at) (caps (goal.at.returns c).After-loads_at) (nets (goal.at.returns c).After-loads_at) c.args.g.k c.loop-t.room c.loop-t.served c.loop-t.excess c.loop-t.t c.loop-t.invariant (omega (arith, c.loop-t-test.false)) c.args.g c.args.edge
-    refl c.edge_at-caps.ensures.0 (nets-is (goal.at.returns c).After-loads_at) in record { value = d.0; upper_bound = omega (arith, d.1, c.requires.shaped.k_most) }
+    refl c.edge_at-caps.ensures.0 (nets-is (goal.at.returns c).After-loads_at) in record { value = d.0; upper_bound = omega (arith, d.1, c.args.g.shaped.k_most) }

@@ -4,7 +4,4 @@ use Rattle.directives.proofs.Falling.{Falling}
 use Rattle.directives.proofs.edge_excess.Given as goal
 
 abbrev pub invariant-loop-t : goal.invariant-loop-t
-invariant-loop-t l = Falling l.w l.caps l.needs l.initial.t l.room l.served l.excess l.t
-
-abbrev pub decreases-loop-t : goal.decreases-loop-t
-decreases-loop-t l = l.t
+invariant-loop-t l = Falling l.w l.caps l.needs l.fn.g.k l.room l.served l.excess l.t

@@ -35,7 +35,7 @@ module _ (c : After-count_nets) where
   small : (e : ℕ) → e < c.args.g.e → SmallRooms c.args.g counts e
   small =
       let x = c.args in
-      rooms-small x.s.now x.g c.requires.shaped x.table.now x.n (o (goal.at.After-count_nets c).Start).lent (o (goal.at.After-count_nets c).Start).job (o (goal.at.After-count_nets c).Start).asked (o (goal.at.After-count_nets c).Start).count x.w.now counts (room (goal.at.After-count_nets c).Start) (o (goal.at.After-count_nets c).Start).capacities (o (goal.at.After-count_nets c).Start).loads counts-are.out
+      rooms-small x.s.now x.g c.args.g.shaped x.table.now x.n (o (goal.at.After-count_nets c).Start).lent (o (goal.at.After-count_nets c).Start).job (o (goal.at.After-count_nets c).Start).asked (o (goal.at.After-count_nets c).Start).count x.w.now counts (room (goal.at.After-count_nets c).Start) (o (goal.at.After-count_nets c).Start).capacities (o (goal.at.After-count_nets c).Start).loads counts-are.out
       (capacity-small (o (goal.at.After-count_nets c).Start).lent (o (goal.at.After-count_nets c).Start).job (o (goal.at.After-count_nets c).Start).asked.accepted)
 
 -- and the counts zeroed again
@@ -43,7 +43,7 @@ module _ (c : After-clear_part) where
   zeroed : Remarked c.args.g (suc (4 * c.args.n)) c.args.w.now c.clear_part.new.w
   zeroed =
       let x = c.args in
-      cleared x.s.now x.g c.requires.shaped x.table.now x.n (o (goal.at.After-clear_part c).Start).lent (o (goal.at.After-clear_part c).Start).job (o (goal.at.After-clear_part c).Start).asked (o (goal.at.After-clear_part c).Start).count x.w.now (counts (goal.at.After-clear_part c).After-count_nets) (room (goal.at.After-clear_part c).Start) (o (goal.at.After-clear_part c).Start).capacities (o (goal.at.After-clear_part c).Start).loads
+      cleared x.s.now x.g c.args.g.shaped x.table.now x.n (o (goal.at.After-clear_part c).Start).lent (o (goal.at.After-clear_part c).Start).job (o (goal.at.After-clear_part c).Start).asked (o (goal.at.After-clear_part c).Start).count x.w.now (counts (goal.at.After-clear_part c).After-count_nets) (room (goal.at.After-clear_part c).Start) (o (goal.at.After-clear_part c).Start).capacities (o (goal.at.After-clear_part c).Start).loads
       (counts-are (goal.at.After-clear_part c).After-count_nets).out (suc (4 * x.n)) c.clear_part.new.w
       (subst (λ (b : ℕ). PartCleared (loads_at x.g) b (counts (goal.at.After-clear_part c).After-count_nets) c.clear_part.new.w) c.demand_at.ensures.value
       (subst (λ (a : ℕ). PartCleared a c.demand_at.result (counts (goal.at.After-clear_part c).After-count_nets) c.clear_part.new.w) c.loads_at.ensures.value c.clear_part.ensures))
@@ -57,17 +57,17 @@ pub returns-then-not-any_low : goal.returns-then-not-any_low
 returns-then-not-any_low c =
     let x = c.args in record {
       result_value = (λ lent j asked capacities n.
-          none-printed x.s.now x.g c.requires.shaped x.table.now x.n lent j asked n (sym c.any_low.ensures ∙ c.if-not-any_low.true));
+          none-printed x.s.now x.g c.args.g.shaped x.table.now x.n lent j asked n (sym c.any_low.ensures ∙ c.if-not-any_low.true));
       remarked = remarked-same x.g (suc (3 * x.n)) (suc (4 * x.n)) x.w.now (omega arith) c.requires.g_in_bounds.1;
     }
 
 pub count_nets-requires : goal.count_nets-requires
 count_nets-requires c =
-    record { shaped = c.requires.shaped; g_in_bounds = c.requires.g_in_bounds; asked_some = c.requires.asked_some }
+    record { g_in_bounds = c.requires.g_in_bounds; asked_some = c.requires.asked_some }
 
 pub sum_excess-sum-requires : goal.sum_excess-sum-requires
 sum_excess-sum-requires c =
-    record { shaped = c.requires.shaped; g_in_bounds = (omega (arith, room (goal.at.sum_excess-sum-requires c).Start, c.count_nets.ensures.w_len_unchanged), small (goal.at.sum_excess-sum-requires c).After-count_nets) }
+    record { g_in_bounds = (omega (arith, room (goal.at.sum_excess-sum-requires c).Start, c.count_nets.ensures.w_len_unchanged), small (goal.at.sum_excess-sum-requires c).After-count_nets) }
 
 pub clear_part-requires : goal.clear_part-requires
 clear_part-requires c =
@@ -81,7 +81,7 @@ pub returns : goal.returns
 returns c =
     let x = c.args in record {
       result_value = (λ lent j asked capacities n.
-          sum-printed x.s.now x.g c.requires.shaped x.table.now x.n lent j asked n x.w.now (counts (goal.at.returns c).After-count_nets) (room (goal.at.returns c).Start) capacities (o (goal.at.returns c).Start).loads (c.count_nets.ensures.remarked lent j asked n).out
+          sum-printed x.s.now x.g c.args.g.shaped x.table.now x.n lent j asked n x.w.now (counts (goal.at.returns c).After-count_nets) (room (goal.at.returns c).Start) capacities (o (goal.at.returns c).Start).loads (c.count_nets.ensures.remarked lent j asked n).out
           (sym c.any_low.ensures ∙ c.if-not-any_low.false) c.sum_excess-sum.result c.sum_excess-sum.ensures);
       remarked = zeroed (goal.at.returns c).After-clear_part;
     }

@@ -4,7 +4,7 @@ use mathlib.Core.List.{List}
 use mathlib.Core.Path.{◌≡◌, ap}
 use Prim.Native.Nat.{ℕ, suc, ◌+◌}
 use native.Mathlib.Omega.{arith}
-use Rattle.layout.specs.declared.Shape.{Shape}
+use Rattle.layout.specs.declared.shape.Shape.{Shape}
 use Rattle.model.specs.Lists.{up_from, sum}
 use Rattle.theory.specs.congestion.Lists.{sum-snoc}
 use Rattle.directives.specs.Counts.{excess_in}
@@ -23,11 +23,11 @@ loop-e-init c =
 
 pub edge_excess-requires : goal.edge_excess-requires
 edge_excess-requires c =
-    record { shaped = c.requires.shaped; edge_lt_e = (c.loop-e-test.true, c.requires.g_in_bounds.0, c.requires.g_in_bounds.1 c.loop-e.e c.loop-e-test.true) }
+    record { edge_lt_e = (c.loop-e-test.true, c.requires.g_in_bounds.0, c.requires.g_in_bounds.1 c.loop-e.e c.loop-e-test.true) }
 
 pub overflow_add-total : goal.overflow_add-total
 overflow_add-total c =
-    omega (arith, c.loop-e.invariant.2, c.edge_excess.ensures.upper_bound, c.loop-e-test.true, c.requires.shaped.e_most)
+    omega (arith, c.loop-e.invariant.2, c.edge_excess.ensures.upper_bound, c.loop-e-test.true, c.args.g.shaped.e_most)
 
 pub loop-e-smaller : goal.loop-e-smaller
 loop-e-smaller c =

@@ -4,7 +4,7 @@ use mathlib.Core.Path.{sym, ◌∙◌}
 use Prim.Native.Nat.{◌+◌, ◌≤◌}
 use native.Mathlib.Omega.{arith}
 use lib.ListN.{length}
-use borrow.Author.Tests.{leb-true, eq-eqb, ne_eqb}
+use borrow.Author.Tests.{leb-true, ne_eqb}
 use Rattle.dirs.proofs.Going.{letter-out}
 use Rattle.dirs.proofs.letter_at.Goals as goal
 use Rattle.dirs.proofs.letter_at.Goals.{Else-not-room}
@@ -33,15 +33,3 @@ returns-then-s-at c =
 pub bounds-s-at-2 : goal.bounds-s-at-2
 bounds-s-at-2 c =
     omega (arith, two (goal.at.bounds-s-at-2 c).Else-not-room)
-
-pub returns-then-b-eq104 : goal.returns-then-b-eq104
-returns-then-b-eq104 c =
-    rw (eq-eqb _ _ c.if-s-at.false, eq-eqb _ _ c.if-b-eq104.true)
-
-pub returns-then-b-eq118 : goal.returns-then-b-eq118
-returns-then-b-eq118 c =
-    rw (eq-eqb _ _ c.if-s-at.false, ne_eqb _ _ c.if-b-eq104.false, eq-eqb _ _ c.if-b-eq118.true)
-
-pub returns : goal.returns
-returns c =
-    rw (eq-eqb _ _ c.if-s-at.false, ne_eqb _ _ c.if-b-eq104.false, ne_eqb _ _ c.if-b-eq118.false)

@@ -1,47 +1,47 @@
 -- `read_dirs` meets its contract: where the line is there, its letters are read from behind the key on; where it is not, nothing is read.
 -- Assumes nothing.
 use mathlib.Core.Path.{◌≡◌, sym, ap, ◌∙◌}
-use Prim.Native.Nat.{◌≤◌}
+use Prim.Native.Nat.{ℕ}
 use native.Mathlib.Omega.{arith}
-use lib.ListN.{length}
-use borrow.Author.Tests.{not-true, not-false}
+use Rattle.std.specs.Prelude.{Option, Some, None}
+use Rattle.std.specs.Option.{ok_or}
+use Rattle.std.specs.Result.{result_ok}
+use Rattle.std.proofs.lemmas.Result.{err_from_is_err_and}
 use Rattle.model.specs.Read.{dirs_line}
 use Rattle.text.specs.Refusals.{place_of}
+use Rattle.text.specs.declared.Fault.TheVariants.{Form}
+use Rattle.text.specs.declared.Refusal.TheVariants.{Line}
 use Rattle.lines.specs.Opens.{place-within}
-use Rattle.lines.specs.declared.Opened.{Opened}
-use Rattle.dirs.specs.Letters.{ways_told, ways_in}
-use Rattle.dirs.specs.declared.Ways.{Ways}
-use Rattle.dirs.specs.declared.Ways.TheVariants.{Mask, Malformed}
+use Rattle.dirs.specs.Letters.{ways_told}
 use Rattle.dirs.proofs.Keys.{key, dirs-there, dirs-none}
 use Rattle.dirs.proofs.Lines.{letters_told}
 use Rattle.dirs.proofs.read_dirs.Goals as goal
-use Rattle.dirs.proofs.read_dirs.Goals.{After-letters, Else-not-o}
+use Rattle.dirs.proofs.read_dirs.Goals.{After-letters}
 
--- the line is there
-module _ (e : Else-not-o) where
-  within : e.open_line-o.result.place.at ≤ length e.args.s.now
-  within = place-within e.args.s.now e.args.c key e.open_line-o.result e.open_line-o.ensures e.requires.at_in_bounds.0 (not-false _ e.if-not-o.false)
-
--- its letters are read
+-- the letters of the line are read
 module _ (n : After-letters) where
-  told : (w : Ways) → n.letters.result ≡ w → letters_told n.open_line-o.result.place.line (ways_told n.args.k n.args.s.now w) ≡ dirs_line n.args.k (place_of n.args.s.now n.args.c)
+  told : (w : Option (ℕ × ℕ)) → n.letters.result ≡ w → letters_told n.in-Some.d.line (ways_told n.args.k n.args.s.now w) ≡ dirs_line n.args.k (place_of n.args.s.now n.args.c)
   told w h =
       let a = n.args in
-      sym (dirs-there a.s.now a.c n.open_line-o.result n.open_line-o.ensures (not-false _ n.if-not-o.false) a.k (omega (arith, n.requires.le_k.0))
-      ∙ ap (letters_told n.open_line-o.result.place.line) (sym n.letters.ensures.result_value ∙ ap (ways_told a.k a.s.now) h))
+      sym (dirs-there a.s.now a.c n.in-Some.d (sym n.open_line.ensures ∙ n.in-Some.is) a.k (omega (arith, n.requires.le_k.0))
+      ∙ ap (letters_told n.in-Some.d.line) (sym n.letters.ensures.result_value ∙ ap (ways_told a.k a.s.now) h))
 
-pub returns-then-not-o : goal.returns-then-not-o
-returns-then-not-o c =
-    record { result_value = sym (dirs-none c.args.s.now c.args.c c.open_line-o.result c.open_line-o.ensures (not-true _ c.if-not-o.true) c.args.k); dirs_hold = record { place = c.requires.at_in_bounds.0; lines = omega arith } }
+pub returns-in_default-clause-result_value : goal.returns-in_default-clause-result_value
+returns-in_default-clause-result_value c =
+    sym (dirs-none c.args.s.now c.args.c (sym c.open_line.ensures ∙ c.in_default.is) c.args.k)
 
 pub letters-requires : goal.letters-requires
 letters-requires c =
-    (within (goal.at.letters-requires c).Else-not-o, c.requires.le_k.1)
+    (place-within c.args.s.now c.args.c key c.in-Some.d (sym c.open_line.ensures ∙ c.in-Some.is) c.requires.at_in_bounds.0, c.requires.le_k.1)
 
-pub returns-in-Malformed : goal.returns-in-Malformed
-returns-in-Malformed c =
-    record { result_value = told (goal.at.returns-in-Malformed c).After-letters Malformed c.in-Malformed.is; dirs_hold = tt }
+pub returns-in_err-north-clause-result_value : goal.returns-in_err-north-clause-result_value
+returns-in_err-north-clause-result_value c =
+    let p = err_from_is_err_and c.from_residual.result c.from_residual.ensures.1 in
+    let n : c.letters.result ≡ None = c.ok_or.ensures.ok_part ∙ ap result_ok c.in_err-north.was in
+    let e = sym c.in_err-north.was ∙ c.ok_or.ensures.value ∙ ap (λ (o : Option (ℕ × ℕ)). ok_or o (Line Form c.in-Some.d.line)) n in
+    let f : c.in_err-north.field-0.0 ≡ Line Form c.in-Some.d.line = cc in
+    rw (p.1, p.2, f) (told (goal.at.returns-in_err-north-clause-result_value c).After-letters None n)
 
-pub returns-in-Mask : goal.returns-in-Mask
-returns-in-Mask c =
-    let i : ways_in (length c.args.s.now) (Mask c.in-Mask.m c.in-Mask.at) = rw c.in-Mask.is at c.letters.ensures.ways_in in record { result_value = told (goal.at.returns-in-Mask c).After-letters (Mask c.in-Mask.m c.in-Mask.at) c.in-Mask.is; dirs_hold = record { place = i; lines = ap (λ (x : Opened). x.place.line) c.open_line-o.ensures } }
+pub returns-clause-result_value : goal.returns-clause-result_value
+returns-clause-result_value c =
+    told (goal.at.returns-clause-result_value c).After-letters (Some (c.in_ok-north.north, c.in_ok-north.at)) (c.ok_or.ensures.ok_part ∙ ap result_ok c.in_ok-north.was)

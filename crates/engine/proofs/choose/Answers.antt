@@ -31,7 +31,7 @@ module _ (b : After-choose_root) where
 pub choose_root-requires : goal.choose_root-requires
 choose_root-requires c =
     let g = c.args in
-    let h = shape (goal.at.choose_root-requires c).After-root_least-least in record { charted = c.requires.charted; root_ready = root-ready g.w.now g.m g.n g.layers c.root_least-least.result h c.root_least-least.ensures (small (goal.at.choose_root-requires c).After-root_least-least); m_bound = (h.small, omega (arith, h.tiles, h.fits), h.some, h.deep); m_in_bounds = h.room }
+    let h = shape (goal.at.choose_root-requires c).After-root_least-least in record { root_ready = root-ready g.w.now g.m g.n g.layers c.root_least-least.result h c.root_least-least.ensures (small (goal.at.choose_root-requires c).After-root_least-least); m_bound = (h.small, omega (arith, h.tiles, h.fits), h.some, h.deep); m_in_bounds = h.room }
 
 pub loop-i-init : goal.loop-i-init
 loop-i-init c =
@@ -41,7 +41,7 @@ pub choose_below-requires : goal.choose_below-requires
 choose_below-requires c =
     let g = c.args in
     let h = shape (goal.at.choose_below-requires c).After-root_least-least in
-    let q = c.loop-i.invariant.3 g.w.now h (rows (goal.at.choose_below-requires c).After-root_least-least) (small (goal.at.choose_below-requires c).After-root_least-least) (started (goal.at.choose_below-requires c).After-choose_root) in record { charted = c.requires.charted; tile_ready = tile-ready g.w.now g.m g.n g.layers c.root_least-least.result h (rows (goal.at.choose_below-requires c).After-root_least-least) (small (goal.at.choose_below-requires c).After-root_least-least) c.loop-i.w c.loop-i.i q (omega arith) (omega arith); m_bound = (h.small, omega arith, omega (arith, h.fits), h.some, h.deep); m_in_bounds = omega (arith, h.room, q.long) }
+    let q = c.loop-i.invariant.3 g.w.now h (rows (goal.at.choose_below-requires c).After-root_least-least) (small (goal.at.choose_below-requires c).After-root_least-least) (started (goal.at.choose_below-requires c).After-choose_root) in record { tile_ready = tile-ready g.w.now g.m g.n g.layers c.root_least-least.result h (rows (goal.at.choose_below-requires c).After-root_least-least) (small (goal.at.choose_below-requires c).After-root_least-least) c.loop-i.w c.loop-i.i q (omega arith) (omega arith); m_bound = (h.small, omega arith, omega (arith, h.fits), h.some, h.deep); m_in_bounds = omega (arith, h.room, q.long) }
 
 pub loop-i-preserved : goal.loop-i-preserved
 loop-i-preserved c =

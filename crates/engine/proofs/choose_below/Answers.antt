@@ -53,7 +53,7 @@ pub choose_branches-requires : goal.choose_branches-requires
 choose_branches-requires c =
     let g = c.args in
     let ok = ready (goal.at.choose_branches-requires c).After-with_layer-base in
-    let attained = tile-attained g.w.now g.m g.i g.layers (first (goal.at.choose_branches-requires c).After-with_layer-base) (end (goal.at.choose_branches-requires c).After-with_layer-base - first (goal.at.choose_branches-requires c).After-with_layer-base) (base (goal.at.choose_branches-requires c).After-with_layer-base) (aim (goal.at.choose_branches-requires c).After-with_layer-base) ok (first-here (goal.at.choose_branches-requires c).After-with_layer-base) (count-here (goal.at.choose_branches-requires c).After-with_layer-base) (base-here (goal.at.choose_branches-requires c).After-with_layer-base) (goal-here (goal.at.choose_branches-requires c).After-with_layer-base) in record { charted = c.requires.charted; k_bound = omega (arith, count-here (goal.at.choose_branches-requires c).After-with_layer-base, ok.few); base_bound = omega arith; le_layers = (omega (arith, (goal.at.choose_branches-requires c).Start), omega (arith, (goal.at.choose_branches-requires c).Start)); k_bound_2 = (omega (arith, first-here (goal.at.choose_branches-requires c).After-with_layer-base, count-here (goal.at.choose_branches-requires c).After-with_layer-base, ok.rising, ok.within), omega (arith, (goal.at.choose_branches-requires c).Start)); m_in_bounds = omega (arith, (goal.at.choose_branches-requires c).Start); attained = attained }
+    let attained = tile-attained g.w.now g.m g.i g.layers (first (goal.at.choose_branches-requires c).After-with_layer-base) (end (goal.at.choose_branches-requires c).After-with_layer-base - first (goal.at.choose_branches-requires c).After-with_layer-base) (base (goal.at.choose_branches-requires c).After-with_layer-base) (aim (goal.at.choose_branches-requires c).After-with_layer-base) ok (first-here (goal.at.choose_branches-requires c).After-with_layer-base) (count-here (goal.at.choose_branches-requires c).After-with_layer-base) (base-here (goal.at.choose_branches-requires c).After-with_layer-base) (goal-here (goal.at.choose_branches-requires c).After-with_layer-base) in record { k_bound = omega (arith, count-here (goal.at.choose_branches-requires c).After-with_layer-base, ok.few); base_bound = omega arith; le_layers = (omega (arith, (goal.at.choose_branches-requires c).Start), omega (arith, (goal.at.choose_branches-requires c).Start)); k_bound_2 = (omega (arith, first-here (goal.at.choose_branches-requires c).After-with_layer-base, count-here (goal.at.choose_branches-requires c).After-with_layer-base, ok.rising, ok.within), omega (arith, (goal.at.choose_branches-requires c).Start)); m_in_bounds = omega (arith, (goal.at.choose_branches-requires c).Start); attained = attained }
 
 pub returns : goal.returns
 returns c =

@@ -7,7 +7,6 @@ use native.Mathlib.Omega.{arith}
 use lib.ListN.{length}
 use lib.Seq.{sets}
 use Rattle.theory.specs.engine.Loops.{comb}
-use Rattle.sets.specs.Mask.{span_of, Charted}
 use Rattle.engine.specs.Layers.{Attained, FirstCombination, FirstWritten}
 use Rattle.engine.proofs.Layers.{attained-at, layers-found, written_at}
 use Rattle.engine.proofs.choose_branches.Goals as goal
@@ -30,11 +29,10 @@ module _ (s : Start) (k K : ℕ) (k-is : s.args.k ≡ k) (K-is : s.args.layers �
   aim = s.args.t.goal
 
   -- what the search asks
-  search-asks : Charted span_of s.args.chart.now
-      × ((k ≤ 3) × ((base < 256) × (((1 ≤ K) × (K ≤ 8)) × (((first ≤ 65536) × (4 * m ≤ 16777216)) × ((4 * m + 8 * (first + k) ≤ length w) × Attained w (4 * m) first k K base aim)))))
+  search-asks : (k ≤ 3) × ((base < 256) × (((1 ≤ K) × (K ≤ 8)) × (((first ≤ 65536) × (4 * m ≤ 16777216)) × ((4 * m + 8 * (first + k) ≤ length w) × Attained w (4 * m) first k K base aim))))
   search-asks =
       let attained = attained-at w (4 * m) first s.args.k k s.args.layers K base aim k-is K-is s.requires.attained in
-      (s.requires.charted, (omega arith, (omega arith, ((omega arith, omega arith), ((omega arith, omega arith), (omega arith, attained))))))
+      (omega arith, (omega arith, ((omega arith, omega arith), ((omega arith, omega arith), (omega arith, attained)))))
 
   module _ (a b c : ℕ) (found : FirstCombination w (4 * m) first k K base aim a b c) where
     -- what the writing asks of the combination that is found
@@ -47,7 +45,7 @@ module _ (s : Start) (k K : ℕ) (k-is : s.args.k ≡ k) (K-is : s.args.layers �
 
 pub first_combination-l-requires : goal.first_combination-l-requires
 first_combination-l-requires c =
-    let r = search-asks (goal.at.first_combination-l-requires c).Start 1 8 (omega arith) (omega arith) in record { charted = r.0; k_bound = r.1.0; base_bound = r.1.1.0; le_layers = r.1.1.1.0; first_bound = r.1.1.1.1.0; k_in_bounds = r.1.1.1.1.1.0; attained = r.1.1.1.1.1.1 }
+    let r = search-asks (goal.at.first_combination-l-requires c).Start 1 8 (omega arith) (omega arith) in record { k_bound = r.0; base_bound = r.1.0; le_layers = r.1.1.0; first_bound = r.1.1.1.0; k_in_bounds = r.1.1.1.1.0; attained = r.1.1.1.1.1 }
 
 pub put_layers-requires : goal.put_layers-requires
 put_layers-requires c =
@@ -59,7 +57,7 @@ returns-then-k-eq1 c =
 
 pub first_combination-l-requires-then-k-eq2 : goal.first_combination-l-requires-then-k-eq2
 first_combination-l-requires-then-k-eq2 c =
-    let r = search-asks (goal.at.first_combination-l-requires-then-k-eq2 c).Start 2 8 (omega arith) (omega arith) in record { charted = r.0; k_bound = r.1.0; base_bound = r.1.1.0; le_layers = r.1.1.1.0; first_bound = r.1.1.1.1.0; k_in_bounds = r.1.1.1.1.1.0; attained = r.1.1.1.1.1.1 }
+    let r = search-asks (goal.at.first_combination-l-requires-then-k-eq2 c).Start 2 8 (omega arith) (omega arith) in record { k_bound = r.0; base_bound = r.1.0; le_layers = r.1.1.0; first_bound = r.1.1.1.0; k_in_bounds = r.1.1.1.1.0; attained = r.1.1.1.1.1 }
 
 pub put_layers-requires-then-k-eq2 : goal.put_layers-requires-then-k-eq2
 put_layers-requires-then-k-eq2 c =
@@ -71,7 +69,7 @@ returns-then-k-eq2 c =
 
 pub first_combination-l-requires-then-k-eq3 : goal.first_combination-l-requires-then-k-eq3
 first_combination-l-requires-then-k-eq3 c =
-    let r = search-asks (goal.at.first_combination-l-requires-then-k-eq3 c).Start 3 8 (omega arith) (omega arith) in record { charted = r.0; k_bound = r.1.0; base_bound = r.1.1.0; le_layers = r.1.1.1.0; first_bound = r.1.1.1.1.0; k_in_bounds = r.1.1.1.1.1.0; attained = r.1.1.1.1.1.1 }
+    let r = search-asks (goal.at.first_combination-l-requires-then-k-eq3 c).Start 3 8 (omega arith) (omega arith) in record { k_bound = r.0; base_bound = r.1.0; le_layers = r.1.1.0; first_bound = r.1.1.1.0; k_in_bounds = r.1.1.1.1.0; attained = r.1.1.1.1.1 }
 
 pub put_layers-requires-then-k-eq3 : goal.put_layers-requires-then-k-eq3
 put_layers-requires-then-k-eq3 c =
@@ -83,7 +81,7 @@ returns-then-k-eq3 c =
 
 pub first_combination-l-requires-2 : goal.first_combination-l-requires-2
 first_combination-l-requires-2 c =
-    let r = search-asks (goal.at.first_combination-l-requires-2 c).Start c.args.k c.args.layers refl refl in record { charted = r.0; k_bound = r.1.0; base_bound = r.1.1.0; le_layers = r.1.1.1.0; first_bound = r.1.1.1.1.0; k_in_bounds = r.1.1.1.1.1.0; attained = r.1.1.1.1.1.1 }
+    let r = search-asks (goal.at.first_combination-l-requires-2 c).Start c.args.k c.args.layers refl refl in record { k_bound = r.0; base_bound = r.1.0; le_layers = r.1.1.0; first_bound = r.1.1.1.0; k_in_bounds = r.1.1.1.1.0; attained = r.1.1.1.1.1 }
 
 pub put_layers-requires-2 : goal.put_layers-requires-2
 put_layers-requires-2 c =

@@ -8,7 +8,7 @@ pub choose_branches-requires : goal.choose_branches-requires
 choose_branches-requires c =
     let g = c.args in
     let ok = c.requires.root_ready in
-    let attained = root-attained g.w.now g.m g.layers g.goal c.at-end.result c.at-pins.result ok (omega arith) (omega arith) in record { charted = c.requires.charted; k_bound = omega (arith, ok.few); base_bound = omega (arith, ok.pins); le_layers = (omega arith, omega arith); k_bound_2 = (omega (arith, ok.start, ok.within), omega arith); m_in_bounds = omega arith; attained = attained }
+    let attained = root-attained g.w.now g.m g.layers g.goal c.at-end.result c.at-pins.result ok (omega arith) (omega arith) in record { k_bound = omega (arith, ok.few); base_bound = omega (arith, ok.pins); le_layers = (omega arith, omega arith); k_bound_2 = (omega (arith, ok.start, ok.within), omega arith); m_in_bounds = omega arith; attained = attained }
 
 pub returns : goal.returns
 returns c =

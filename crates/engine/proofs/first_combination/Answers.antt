@@ -122,7 +122,7 @@ overflow_sub-t-in-loop-c-2 c =
 
 pub reaches-requires : goal.reaches-requires
 reaches-requires c =
-    record { charted = c.requires.charted; mask_bound = omega arith }
+    omega arith
 
 pub overflow_add-x : goal.overflow_add-x
 overflow_add-x c =

@@ -25,7 +25,7 @@ returns-then-g-eq8 c =
 
 pub sum_of-requires-2 : goal.sum_of-requires-2
 sum_of-requires-2 c =
-    record { k_in_bounds = (omega (arith, c.edge_at-at.ensures.1, c.requires.edge_lt_e), c.requires.shaped.k_most); by_index = small (goal.at.sum_of-requires-2 c).Start c.edge_at-at.result c.edge_at-at.ensures.0 }
+    record { k_in_bounds = (omega (arith, c.edge_at-at.ensures.1, c.requires.edge_lt_e), c.args.g.shaped.k_most); by_index = small (goal.at.sum_of-requires-2 c).Start c.edge_at-at.result c.edge_at-at.ensures.0 }
 
 pub returns : goal.returns
 returns c =

@@ -20,7 +20,7 @@ loop-e-init c =
 
 pub edge_capacity-c-requires : goal.edge_capacity-c-requires
 edge_capacity-c-requires c =
-    let o = c.loop-e.invariant.1.outside in record { shaped = c.requires.shaped; edge_lt_e = (omega arith, omega (arith, o.long, c.requires.g_in_bounds)); small_capacities = small-kept c.args.g c.flat_at-flat.result c.loop-e.e c.args.w.now c.loop-e.w o (above (goal.at.edge_capacity-c-requires c).At-loop-e) c.requires.small_capacities }
+    let o = c.loop-e.invariant.1.outside in record { edge_lt_e = (omega arith, omega (arith, o.long, c.requires.g_in_bounds)); small_capacities = small-kept c.args.g c.flat_at-flat.result c.loop-e.e c.args.w.now c.loop-e.w o (above (goal.at.edge_capacity-c-requires c).At-loop-e) c.requires.small_capacities }
 
 pub bounds-w-flat : goal.bounds-w-flat
 bounds-w-flat c =

@@ -15,7 +15,7 @@ loop-i-init c =
 pub loop-i-preserved : goal.loop-i-preserved
 loop-i-preserved c =
     let a = c.args in
-    (omega (arith, c.loop-i-test.true), omega (arith, c.larger-most.ensures, c.loop-i.invariant.1, most-next (λ i. get_or a.w.now (a.at + i) 0) c.loop-i.i))
+    (omega (arith, c.loop-i-test.true), omega (arith, c.loop-i.invariant.1, most-next (λ i. get_or a.w.now (a.at + i) 0) c.loop-i.i))
 
 pub returns : goal.returns
 returns c =

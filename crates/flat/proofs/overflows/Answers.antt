@@ -9,22 +9,22 @@ use Rattle.flat.specs.FlatPlan.{over_in}
 use Rattle.layout.specs.Fill.{filled_none, filled_next}
 use Rattle.flat.proofs.Turns.{sum-next, most-next, over-kept, over-small, overflowed}
 use Rattle.flat.proofs.overflows.Goals as goal
-use Rattle.flat.proofs.overflows.Goals.{After-over_of-o}
+use Rattle.flat.proofs.overflows.Goals.{After-saturating_sub-o}
 
 -- the overflow that a turn finds
-module _ (c : After-over_of-o) where
+module _ (c : After-saturating_sub-o) where
   abbrev f : ℕ
   f = c.flat_at-flat.result
 
   abbrev d : ℕ
   d = c.demand_at-demand.result
 
-  found : c.over_of-o.result ≡ over_in d f c.args.w.now c.loop-e.e
+  found : c.saturating_sub-o.result ≡ over_in d f c.args.w.now c.loop-e.e
   found =
-      c.over_of-o.ensures
+      c.saturating_sub-o.ensures
       ∙ over-kept d f c.loop-e.e c.args.w.now c.loop-e.w c.loop-e.invariant.1.outside (omega (arith, c.flat_at-flat.ensures, c.demand_at-demand.ensures))
 
-  few : c.over_of-o.result ≤ most_nets
+  few : c.saturating_sub-o.result ≤ most_nets
   few =
       omega (
         arith,
@@ -39,17 +39,17 @@ loop-e-init c =
 
 pub overflow_add-total : goal.overflow_add-total
 overflow_add-total c =
-    omega (arith, few (goal.at.overflow_add-total c).After-over_of-o)
+    omega (arith, few (goal.at.overflow_add-total c).After-saturating_sub-o)
 
 pub loop-e-preserved : goal.loop-e-preserved
 loop-e-preserved c =
-    let v = over_in (d (goal.at.loop-e-preserved c).After-over_of-o) (f (goal.at.loop-e-preserved c).After-over_of-o) c.args.w.now in (
+    let v = over_in (d (goal.at.loop-e-preserved c).After-saturating_sub-o) (f (goal.at.loop-e-preserved c).After-saturating_sub-o) c.args.w.now in (
       omega arith,
-      filled_next (d (goal.at.loop-e-preserved c).After-over_of-o) c.loop-e.e v c.args.w.now c.loop-e.w c.over_of-o.result c.loop-e.invariant.1
-          (omega (arith, c.requires.g_in_bounds, c.demand_at-demand.ensures)) (found (goal.at.loop-e-preserved c).After-over_of-o),
-      omega (arith, few (goal.at.loop-e-preserved c).After-over_of-o),
-      omega (arith, found (goal.at.loop-e-preserved c).After-over_of-o, c.loop-e.invariant.3, sum-next v c.loop-e.e),
-      omega (arith, found (goal.at.loop-e-preserved c).After-over_of-o, c.loop-e.invariant.4, c.larger-most.ensures, most-next v c.loop-e.e),
+      filled_next (d (goal.at.loop-e-preserved c).After-saturating_sub-o) c.loop-e.e v c.args.w.now c.loop-e.w c.saturating_sub-o.result c.loop-e.invariant.1
+          (omega (arith, c.requires.g_in_bounds, c.demand_at-demand.ensures)) (found (goal.at.loop-e-preserved c).After-saturating_sub-o),
+      omega (arith, few (goal.at.loop-e-preserved c).After-saturating_sub-o),
+      omega (arith, found (goal.at.loop-e-preserved c).After-saturating_sub-o, c.loop-e.invariant.3, sum-next v c.loop-e.e),
+      omega (arith, found (goal.at.loop-e-preserved c).After-saturating_sub-o, c.loop-e.invariant.4, most-next v c.loop-e.e),
     )
 
 pub shape_of-w : goal.shape_of-w

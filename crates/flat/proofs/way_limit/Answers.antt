@@ -31,11 +31,11 @@ most_of-most-requires c =
 
 pub layers_in-requires : goal.layers_in-requires
 layers_in-requires c =
-    c.requires.shaped.k_most
+    c.args.g.shaped.k_most
 
 pub share-requires : goal.share-requires
 share-requires c =
-    (few (goal.at.share-requires c).After-most_of-most, omega (arith, c.layers_in.ensures.upper_bound, c.requires.shaped.k_most))
+    (few (goal.at.share-requires c).After-most_of-most, omega (arith, c.layers_in.ensures.upper_bound, c.args.g.shaped.k_most))
 
 pub returns : goal.returns
 returns c =

@@ -1,22 +1,27 @@
 -- `read_stack` meets its contract: the number of the line `layers`, judged by the stack's limits (`Stacks.antt`).
 -- Assumes nothing.
 use mathlib.Core.Path.{◌≡◌, refl, sym, ap, ◌∙◌, subst}
-use Prim.Native.Nat.{ℕ, ◌+◌}
+use Prim.Native.Nat.{ℕ}
 use lib.ListN.{length}
-use Rattle.model.specs.Read.{found}
+use Rattle.std.specs.Prelude.{Option, Some, None}
+use Rattle.std.specs.Option.{ok_or}
+use Rattle.std.specs.Result.{result_ok}
+use Rattle.std.proofs.lemmas.Result.{err_from_is_err_and}
 use Rattle.text.specs.Refusals.{place_of, number_of, line_of}
-use Rattle.lines.specs.Keyed.{key_bytes, number_line_by}
-use Rattle.lines.specs.Told.{field_told, field-after}
+use Rattle.text.specs.declared.Fault.TheVariants.{Range}
+use Rattle.text.specs.declared.Refusal.TheVariants.{Line}
+use Rattle.layout.specs.Shapes.{stack_of}
+use Rattle.layout.specs.declared.Stack.{Stack}
 use Rattle.head.specs.Told.{sizes_hold}
 use Rattle.head.proofs.Stacks.{stack-limits, stack-refused, stack-outside, stack-inside}
 use native.Mathlib.Omega.{arith}
 use Rattle.head.proofs.read_stack.Goals as goal
-use Rattle.head.proofs.read_stack.Goals.{In-Value}
+use Rattle.head.proofs.read_stack.Goals.{In_ok-stack}
 
--- the number that was read
-module _ (k : In-Value) where
-  there : number_line_by (key_bytes "layers") (place_of k.args.s.now k.args.c) ≡ found k.in-Value.k (place_of k.args.s.now k.in-Value.d)
-  there = sym k.number_line.ensures.result_value ∙ ap (field_told k.args.s.now) k.in-Value.is
+-- the stack that was made
+module _ (k : In_ok-stack) where
+  made : stack_of k.in_ok-k.k ≡ Some k.in_ok-stack.stack
+  made = sym k.new.ensures ∙ k.ok_or.ensures.ok_part ∙ ap result_ok k.in_ok-stack.was
 
 pub number_line-requires : goal.number_line-requires
 number_line-requires c =
@@ -24,22 +29,30 @@ number_line-requires c =
 
 pub read_ways-requires : goal.read_ways-requires
 read_ways-requires c =
-    let f = field-after c.number_line.result (length c.args.s.now) (c.args.c.line + 1) c.in-Value.k c.in-Value.d c.in-Value.is c.number_line.ensures.field_in in
-    let l = stack-limits c.in-Value.k c.in-Stack.stack (sym c.new.ensures ∙ c.in-Stack.is) in record { at_in_bounds = (f.place, omega (arith, f.lines, c.requires.at_in_bounds.1)); le_w = (c.requires.le_w.0, c.requires.le_w.1, c.requires.le_w.2, c.requires.le_w.3, omega (arith, l.0, l.1), omega (arith, l.0, l.2)) }
+    let f = c.in_ok-k.ensures.field_in in
+    let l = stack-limits c.in_ok-k.k c.in_ok-stack.stack (made (goal.at.read_ways-requires c).In_ok-stack) in
+    record { at_in_bounds = (f.place, omega (arith, f.lines, c.requires.at_in_bounds.1)); le_w = (c.requires.le_w.0, c.requires.le_w.1, c.requires.le_w.2, c.requires.le_w.3, omega (arith, l.0, l.1), omega (arith, l.0, l.2)) }
 
-pub returns-in-Refused : goal.returns-in-Refused
-returns-in-Refused c =
-    let a = c.args in record { result_value = sym (stack-refused a.w a.h (place_of a.s.now a.c) (number_of c.in-Refused.r) (line_of c.in-Refused.r) (sym c.number_line.ensures.result_value ∙ ap (field_told a.s.now) c.in-Refused.is)); sizes_hold = tt }
-
-pub returns-in-Outside : goal.returns-in-Outside
-returns-in-Outside c =
-    let a = c.args in record { result_value = sym (stack-outside a.w a.h (place_of a.s.now a.c) c.in-Value.k (place_of a.s.now c.in-Value.d) (there (goal.at.returns-in-Outside c).In-Value) (sym c.new.ensures ∙ c.in-Outside.is)); sizes_hold = tt }
-
-pub returns-in-Stack : goal.returns-in-Stack
-returns-in-Stack c =
+pub returns-in_err-k-clause-result_value : goal.returns-in_err-k-clause-result_value
+returns-in_err-k-clause-result_value c =
     let a = c.args in
-    let f = field-after c.number_line.result (length a.s.now) (a.c.line + 1) c.in-Value.k c.in-Value.d c.in-Value.is c.number_line.ensures.field_in in record {
+    let r = c.in_err-k.field-0.0 in
+    let p = err_from_is_err_and c.from_residual.result c.from_residual.ensures.1 in
+    rw (p.1, p.2) (sym (stack-refused a.w a.h (place_of a.s.now a.c) (number_of r) (line_of r) (sym c.in_err-k.ensures.result_value)))
+
+pub returns-in_err-stack-clause-result_value : goal.returns-in_err-stack-clause-result_value
+returns-in_err-stack-clause-result_value c =
+    let a = c.args in
+    let p = err_from_is_err_and c.from_residual-in_err-stack.result c.from_residual-in_err-stack.ensures.1 in
+    let n : c.new.result ≡ None = c.ok_or.ensures.ok_part ∙ ap result_ok c.in_err-stack.was in
+    let e = sym c.in_err-stack.was ∙ c.ok_or.ensures.value ∙ ap (λ (o : Option Stack). ok_or o (Line Range c.in_ok-k.d.line)) n in
+    let f : c.in_err-stack.field-0.0 ≡ Line Range c.in_ok-k.d.line = cc in
+    rw (p.1, p.2, f) (sym (stack-outside a.w a.h (place_of a.s.now a.c) c.in_ok-k.k (place_of a.s.now c.in_ok-k.d) (sym c.in_ok-k.ensures.result_value) (sym c.new.ensures ∙ n)))
+
+pub returns : goal.returns
+returns c =
+    let a = c.args in record {
       result_value = c.read_ways.ensures.result_value
-          ∙ sym (stack-inside a.w a.h (place_of a.s.now a.c) c.in-Value.k (place_of a.s.now c.in-Value.d) (there (goal.at.returns-in-Stack c).In-Value) c.in-Stack.stack (sym c.new.ensures ∙ c.in-Stack.is));
-      sizes_hold = subst (λ (m : ℕ). sizes_hold (length a.s.now) m c.read_ways.result) f.lines c.read_ways.ensures.sizes_hold;
+          ∙ sym (stack-inside a.w a.h (place_of a.s.now a.c) c.in_ok-k.k (place_of a.s.now c.in_ok-k.d) (sym c.in_ok-k.ensures.result_value) c.in_ok-stack.stack (made (goal.at.returns c).In_ok-stack));
+      sizes_hold = subst (λ (m : ℕ). sizes_hold (length a.s.now) m c.read_ways.result) c.in_ok-k.ensures.field_in.lines c.read_ways.ensures.sizes_hold;
     }

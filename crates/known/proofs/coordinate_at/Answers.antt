@@ -3,7 +3,8 @@
 use mathlib.Core.Path.{ap₂, ◌∙◌}
 use Prim.Native.Nat.{ℕ, ◌+◌, ◌-◌}
 use native.Mathlib.Omega.{arith}
-use Rattle.text.specs.declared.Numeral.TheVariants.{Value}
+use Rattle.std.specs.Prelude.{Some}
+use Rattle.text.specs.Number.{numeral}
 use Rattle.known.proofs.Parts.{Coordinates, coordinates, decoded}
 use Rattle.known.proofs.coordinate_at.Goals as goal
 use Rattle.known.proofs.coordinate_at.Goals.{Start}
@@ -33,5 +34,5 @@ overflow_add-next c =
 
 pub returns : goal.returns
 returns c =
-    ap₂ (λ (a b : ℕ). Value a (c.args.at + 3 - b)) c.digits-value.ensures c.comma.ensures.value
+    ap₂ (λ (a b : ℕ). Some (numeral a (c.args.at + 3 - b))) c.digits-value.ensures c.comma.ensures.value
     ∙ decoded c.args.s.now c.args.at (bytes (goal.at.returns c).Start) c.digit-first.result c.digit-first.ensures.0

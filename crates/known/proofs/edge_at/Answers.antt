@@ -6,8 +6,8 @@ use Prim.Native.Nat.{ℕ, ◌+◌}
 use native.Mathlib.Omega.{arith}
 use lib.Dec.{eqb}
 use lib.ListN.{get_or}
-use Rattle.text.specs.Entries.{edge_entry_at}
-use Rattle.known.specs.Known.{entry_of}
+use Rattle.std.specs.Prelude.{Some}
+use Rattle.text.specs.Entries.{entry, edge_entry_at}
 use Rattle.known.proofs.Parts.{Ended, edge-first, edge-second, edge-third}
 use Rattle.known.proofs.edge_at.Goals as goal
 use Rattle.known.proofs.edge_at.Goals.{After-coordinate_at-y}
@@ -19,7 +19,7 @@ module _ (c : After-coordinate_at-y) where
   third : Ended c.args.s.now c.coordinate_at-x.result.value c.coordinate_at-y.result.value q (cond (eqb (get_or c.args.s.now q 0) 110) 1 0)
       (edge_entry_at c.args.s.now c.args.at)
   third =
-      edge-third c.args.s.now c.args.at c.requires c.coordinate_at-x.result.value c.coordinate_at-x.result.next c.coordinate_at-x.ensures c.coordinate_at-y.result.value c.coordinate_at-y.result.next c.coordinate_at-y.ensures
+      edge-third c.args.s.now c.args.at c.requires c.coordinate_at-x.result c.coordinate_at-x.ensures c.coordinate_at-y.result c.coordinate_at-y.ensures
 
 pub coordinate_at-x-requires : goal.coordinate_at-x-requires
 coordinate_at-x-requires c =
@@ -27,7 +27,7 @@ coordinate_at-x-requires c =
 
 pub coordinate_at-y-requires : goal.coordinate_at-y-requires
 coordinate_at-y-requires c =
-    edge-second c.args.s.now c.args.at c.requires c.coordinate_at-x.result.value c.coordinate_at-x.result.next c.coordinate_at-x.ensures
+    edge-second c.args.s.now c.args.at c.requires c.coordinate_at-x.result c.coordinate_at-x.ensures
 
 pub bounds-s-n : goal.bounds-s-n
 bounds-s-n c =
@@ -48,5 +48,5 @@ overflow_add-result c =
 pub returns : goal.returns
 returns c =
     let b = get_or c.args.s.now (q (goal.at.returns c).After-coordinate_at-y + 1) 0 in
-    ap (λ (z : ℕ). entry_of (record { x = c.coordinate_at-x.result.value; y = c.coordinate_at-y.result.value; third = z; next = q (goal.at.returns c).After-coordinate_at-y + 2; last = eqb b 10 })) c.way-d.ensures
+    ap (λ (z : ℕ). Some (entry c.coordinate_at-x.result.value c.coordinate_at-y.result.value z (q (goal.at.returns c).After-coordinate_at-y + 2) (eqb b 10))) c.way-d.ensures
     ∙ (third (goal.at.returns c).After-coordinate_at-y).is

@@ -13,7 +13,7 @@ module _ (c : After-coordinate_at-y) where
 
   third : Layer c.args.s.now c.coordinate_at-x.result.value c.coordinate_at-y.result.value q (pin_entry_at c.args.s.now c.args.at)
   third =
-      pin-third c.args.s.now c.args.at c.requires c.coordinate_at-x.result.value c.coordinate_at-x.result.next c.coordinate_at-x.ensures c.coordinate_at-y.result.value c.coordinate_at-y.result.next c.coordinate_at-y.ensures
+      pin-third c.args.s.now c.args.at c.requires c.coordinate_at-x.result c.coordinate_at-x.ensures c.coordinate_at-y.result c.coordinate_at-y.ensures
 
 pub coordinate_at-x-requires : goal.coordinate_at-x-requires
 coordinate_at-x-requires c =
@@ -21,7 +21,7 @@ coordinate_at-x-requires c =
 
 pub coordinate_at-y-requires : goal.coordinate_at-y-requires
 coordinate_at-y-requires c =
-    pin-second c.args.s.now c.args.at c.requires c.coordinate_at-x.result.value c.coordinate_at-x.result.next c.coordinate_at-x.ensures
+    pin-second c.args.s.now c.args.at c.requires c.coordinate_at-x.result c.coordinate_at-x.ensures
 
 pub bounds-s-n : goal.bounds-s-n
 bounds-s-n c =

@@ -40,4 +40,4 @@ module _ (a b : ℕ) (w : List ℕ) (rise : a ≤ b) (room : b ≤ length w) (p 
 
 pub returns : goal.returns
 returns c =
-    cleared c.args.from c.args.to c.args.w.now c.requires.0 c.requires.1 c.clear.new.w c.clear.ensures
+    cleared c.args.from c.args.to c.args.w.now c.requires.0 c.requires.1 c.fill.new.self (c.fill.ensures.after (λ y e. e))

@@ -7,7 +7,7 @@ use Rattle.layout.proofs.edge_at.Goals as goal
 
 pub overflow_mul-result : goal.overflow_mul-result
 overflow_mul-result c =
-    omega (arith, edge-room c.args.g c.args.edge c.requires.edge_lt_e, c.requires.shaped.all_most)
+    omega (arith, edge-room c.args.g c.args.edge c.requires.edge_lt_e, c.args.g.shaped.all_most)
 
 pub returns : goal.returns
 returns c =

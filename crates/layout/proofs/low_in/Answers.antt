@@ -8,4 +8,4 @@ use Rattle.layout.proofs.low_in.Goals as goal
 
 pub returns : goal.returns
 returns c =
-    record { value = ap (λ (k : ℕ). get_or c.args.table.now k 0 % 16) c.vias_column.ensures.value; upper_bound = omega arith }
+    record { value = ap (λ (k : ℕ). get_or c.args.table.now k 0 % 16) c.at.ensures.value; upper_bound = omega arith }

@@ -16,12 +16,12 @@ pub overflow_add-table : goal.overflow_add-table
 overflow_add-table c =
     omega (arith, c.before.requires.2, c.low_in-wanted.ensures.upper_bound)
 
-pub bounds-table-vias_column : goal.bounds-table-vias_column
-bounds-table-vias_column c =
+pub bounds-table-at-2 : goal.bounds-table-at-2
+bounds-table-at-2 c =
     simp length-set (omega arith)
 
 pub returns : goal.returns
 returns c =
     let z = c.before in
     let a = z.args in
-    rw (c.tiles_column.ensures.value, c.vias_column.ensures.value, c.low_in-wanted.ensures.value)
+    rw (c.at.ensures.value, c.at-2.ensures.value, c.low_in-wanted.ensures.value)

@@ -8,5 +8,5 @@ pub returns : goal.returns
 returns c =
     let a = c.args in
     ap₂ (λ (x y : ℕ). x + 4294967296 * y)
-    (c.wide-low.ensures.0 ∙ ap (λ (k : ℕ). get_or a.table.now k 0) c.tiles_column.ensures.value)
-    (c.wide-high.ensures.0 ∙ ap (λ (k : ℕ). get_or a.table.now k 0 / 16) c.vias_column.ensures.value)
+    (c.from-low.ensures ∙ ap (λ (k : ℕ). get_or a.table.now k 0) c.at.ensures.value)
+    (c.from-high.ensures ∙ ap (λ (k : ℕ). get_or a.table.now k 0 / 16) c.at-2.ensures.value)

@@ -1,8 +1,7 @@
 -- `shape_of` meets its contract.
 -- Assumes nothing.
 use native.Mathlib.Omega.{arith}
-use mathlib.Core.Path.{refl}
-use Rattle.layout.proofs.Sizes.{product, less_one, one_less, shaped}
+use Rattle.layout.proofs.Sizes.{product, less_one, one_less}
 use Rattle.layout.proofs.shape_of.Goals as goal
 
 pub overflow_mul-east : goal.overflow_mul-east
@@ -20,7 +19,3 @@ overflow_mul-tiles c =
 pub overflow_add-result : goal.overflow_add-result
 overflow_add-result c =
     omega (arith, less_one c.args.w c.args.h (omega arith) (omega arith), one_less c.args.w c.args.h (omega arith) (omega arith))
-
-pub returns : goal.returns
-returns c =
-    record { value = refl; shaped = shaped c.args.w c.args.h c.args.stack.layers c.args.dirs c.requires.0 c.requires.1 c.requires.2 c.requires.3 c.requires.4 c.requires.5 }

@@ -1,28 +1,45 @@
 -- `number_line` meets its contract: the line is opened, and a number that byte 10 ends is read from behind the key on.
 -- Assumes nothing.
-use mathlib.Core.Path.{sym, ap, ◌∙◌}
+use mathlib.Core.Path.{◌≡◌, sym, ap, ◌∙◌}
 use native.Mathlib.Omega.{arith}
-use borrow.Author.Tests.{not-true, not-false}
+use Rattle.std.proofs.lemmas.Result.{err_from_is_err_and}
+use Rattle.std.specs.Prelude.{Some, None}
+use Rattle.text.specs.declared.Cursor.{Cursor}
+use Rattle.text.specs.declared.Fault.TheVariants.{Form}
+use Rattle.text.specs.declared.Refusal.TheVariants.{Line as OnLine}
 use Rattle.lines.specs.Digits.{ended-within}
-use Rattle.lines.specs.declared.Opened.{Opened}
+use Rattle.lines.specs.Opens.{expected-there, place-is}
 use Rattle.lines.proofs.Keys.{number-none, number-key}
 use Rattle.lines.proofs.Places.{numeral_told}
 use Rattle.lines.proofs.number_line.Goals as goal
-use Rattle.lines.proofs.number_line.Goals.{After-ended}
 
-pub returns-then-not-o : goal.returns-then-not-o
-returns-then-not-o c =
-    record { result_value = sym (number-none c.args.s.now c.args.c c.args.key.now c.requires.2 c.open_line-o.result c.open_line-o.ensures (not-true _ c.if-not-o.true)); field_in = tt }
-
-pub returns-in-Malformed : goal.returns-in-Malformed
-returns-in-Malformed c =
-    let a = c.args in record {
-      result_value = sym (number-key a.s.now a.c a.key.now c.requires.2 c.open_line-o.result c.open_line-o.ensures (not-false _ c.if-not-o.false)
-          ∙ ap (numeral_told c.open_line-o.result.place.line a.s.now) (sym c.ended.ensures ∙ c.in-Malformed.is));
-      field_in = tt;
-    }
-
-pub returns-in-Value : goal.returns-in-Value
-returns-in-Value c =
+pub returns-in_err-d : goal.returns-in_err-d
+returns-in_err-d c =
     let a = c.args in
-    let t = sym c.ended.ensures ∙ c.in-Value.is in record { result_value = sym (number-key a.s.now a.c a.key.now c.requires.2 c.open_line-o.result c.open_line-o.ensures (not-false _ c.if-not-o.false) ∙ ap (numeral_told c.open_line-o.result.place.line a.s.now) t); field_in = record { place = ended-within a.s.now c.open_line-o.result.place.at 10 c.in-Value.v c.in-Value.next (omega arith) t; lines = ap (λ (x : Opened). x.place.line) c.open_line-o.ensures } }
+    let p = err_from_is_err_and c.from_residual.result c.from_residual.ensures.1 in
+    rw (p.1, p.2) (record { result_value = sym (number-none a.s.now a.c a.key.now c.expect_line.result c.expect_line.ensures.result_value _ c.in_err-d.was); field_in = tt })
+
+pub returns-in_err-n : goal.returns-in_err-n
+returns-in_err-n c =
+    let a = c.args in
+    let p = err_from_is_err_and c.from_residual-in_err-n.result c.from_residual-in_err-n.ensures.1 in
+    let none_there : c.ended.result ≡ None = grind arith in
+    let refusal : c.in_err-n.field-0.0 ≡ OnLine Form c.in_ok-d.d.line = grind arith in
+    rw (p.1, p.2, refusal) (record {
+      result_value = sym (number-key a.s.now a.c a.key.now c.expect_line.result c.expect_line.ensures.result_value c.in_ok-d.d c.in_ok-d.was
+          ∙ ap (numeral_told c.in_ok-d.d.line a.s.now) (sym c.ended.ensures ∙ none_there));
+      field_in = tt;
+    })
+
+pub returns : goal.returns
+returns c =
+    let a = c.args in
+    let found : c.ended.result ≡ Some c.in_ok-n.n = grind arith in
+    let t = sym c.ended.ensures ∙ found in record {
+      result_value = sym (number-key a.s.now a.c a.key.now c.expect_line.result c.expect_line.ensures.result_value c.in_ok-d.d c.in_ok-d.was
+          ∙ ap (numeral_told c.in_ok-d.d.line a.s.now) t);
+      field_in = record {
+        place = ended-within a.s.now c.in_ok-d.d.at 10 c.in_ok-n.n (omega arith) (sym t);
+        lines = ap (λ (x : Cursor). x.line) (place-is a.s.now a.c a.key.now c.in_ok-d.d (expected-there a.s.now a.c a.key.now c.in_ok-d.d (sym c.expect_line.ensures.opened ∙ c.in_ok-d.was)));
+      };
+    }

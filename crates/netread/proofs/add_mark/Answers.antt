@@ -6,4 +6,4 @@ use Rattle.netread.proofs.add_mark.Goals as goal
 pub returns : goal.returns
 returns c =
     let x = c.args in
-    λ i h e. bit_added x.stamp x.a.now x.t c.requires.fits i h c.larger-kept.result x.b c.larger-kept.ensures e
+    λ i h e. bit_added x.stamp x.a.now x.t c.requires.fits i h c.max-kept.result x.b c.max-kept.ensures e

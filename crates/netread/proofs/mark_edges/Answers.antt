@@ -17,7 +17,7 @@ returns-then-s-at-eq10 c =
 
 pub mark_entries-requires : goal.mark_entries-requires
 mark_entries-requires c =
-    record { shaped = c.requires.shaped; g_in_bounds = c.requires.g_in_bounds; edges_there = (c.requires.edges_there, c.if-s-at-eq10.false) }
+    record { g_in_bounds = c.requires.g_in_bounds; edges_there = (c.requires.edges_there, c.if-s-at-eq10.false) }
 
 pub returns : goal.returns
 returns c =

@@ -1,44 +1,44 @@
--- `mark_entries` meets its contract. The loop's invariant: some edges of the line are marked and listed, and the others stand at i.
+-- `mark_entries` meets its contract. The loop's invariant: the edges that came are marked and listed.
 -- Assumes nothing.
-use mathlib.Core.Path.{◌∙◌}
 use native.Mathlib.Omega.{arith}
-use Rattle.netread.proofs.EdgeTurns.{going_start, next-short, next-asked, going-last, going_more, next_place}
+use Rattle.known.specs.Taken.{taken_start, taken_all, taken-inside, taken-new, taken-room, taken_more}
+use Rattle.scan.specs.Pins.{triple}
+use Rattle.netread.specs.Hand.{edges-start, edges_more, fits_more}
 use Rattle.netread.proofs.mark_entries.Goals as goal
 
-pub loop-g-init : goal.loop-g-init
-loop-g-init c =
-    let x = c.args in
-    going_start x.s.now x.g x.stamp x.at x.low c.requires.shaped c.requires.edges_there.0 c.requires.edges_there.1 x.w.now c.requires.g_in_bounds.2
-
-pub edge_at-e-requires : goal.edge_at-e-requires
-edge_at-e-requires c =
-    let x = c.args in
-    next-short x.s.now x.g x.stamp x.at x.low c.requires.shaped c.requires.edges_there.0 c.loop-g.i x.w.now c.loop-g.w c.loop-g.v c.requires.g_in_bounds.0 c.loop-g.invariant
+pub loop-e-init : goal.loop-e-init
+loop-e-init c =
+    taken_start c.args.g.shaped c.requires.edges_there.0 c.requires.edges_there.1 (rw c.into_iter-e-iterator.ensures.into_iter_gives c.edges_from-e-items.ensures)
+    (edges-start c.args.g c.args.stamp c.args.low c.args.w.now, c.requires.g_in_bounds.2)
 
 pub mark_edge-v-requires : goal.mark_edge-v-requires
 mark_edge-v-requires c =
-    let x = c.args in
-    let a = next-asked x.s.now x.g x.stamp x.at x.low c.requires.shaped c.requires.edges_there.0 c.loop-g.i x.w.now c.loop-g.w c.loop-g.v c.requires.g_in_bounds.0 c.loop-g.invariant c.edge_at-e.result c.edge_at-e.ensures in record { shaped = c.requires.shaped; g_in_bounds = (a.0, c.requires.g_in_bounds.1, a.1, a.2, a.3); fits = c.loop-g.invariant.fits }
+    let l = c.loop-e.invariant.2 in
+    let k = taken-inside l c.in-Some.e c.next.new.self c.in-Some.ensures.steps in
+    let few = taken-room l c.in-Some.e c.next.new.self c.in-Some.ensures.steps c.requires.edges_there.0 in
+    record {
+      g_in_bounds = (omega (arith, c.requires.g_in_bounds.0, l.holds.0.elsewhere.long), c.requires.g_in_bounds.1, omega (arith, l.holds.0.count, few), k.0, k.1);
+      fits = l.holds.1;
+    }
 
-pub shape_of-w-then-e : goal.shape_of-w-then-e
-shape_of-w-then-e c =
-    c.mark_edge-v.ensures.elsewhere.long ∙ c.loop-g.invariant.marked.elsewhere.long
+pub loop-e-preserved : goal.loop-e-preserved
+loop-e-preserved c =
+    let g = c.args.g in
+    let n = c.args.stamp in
+    let l = c.loop-e.invariant.2 in
+    let e = c.in-Some.e in
+    let k = taken-inside l e c.next.new.self c.in-Some.ensures.steps in
+    let new = taken-new l e c.next.new.self c.in-Some.ensures.steps c.requires.edges_there.0 in
+    let t = triple e.x e.y e.third in
+    let w = c.loop-e.w in
+    let after = c.mark_edge-v.new.w in
+    let r = c.mark_edge-v.result in
+    let one = c.mark_edge-v.ensures in
+    taken_more l e c.next.new.self c.in-Some.ensures.steps g.shaped (
+      edges_more g g.shaped n l.so_far w after (omega (arith, c.requires.g_in_bounds.0, l.holds.0.elsewhere.long)) t k.1 k.0 new c.loop-e.v r one l.holds.0.count c.args.low c.args.w.now l.holds.0,
+      fits_more g g.shaped n l.so_far w after (omega (arith, c.requires.g_in_bounds.0, l.holds.0.elsewhere.long)) t k.1 k.0 new c.loop-e.v r one l.holds.0.count l.holds.1,
+    )
 
-pub returns-then-e : goal.returns-then-e
-returns-then-e c =
-    let x = c.args in
-    going-last x.s.now x.g x.stamp x.at x.low c.requires.shaped c.requires.edges_there.0 c.loop-g.i x.w.now c.loop-g.w c.loop-g.v c.requires.g_in_bounds.0 c.loop-g.invariant c.edge_at-e.result c.edge_at-e.ensures
-    c.mark_edge-v.new.w c.mark_edge-v.result c.mark_edge-v.ensures c.if-e.true
-
-pub loop-g-smaller : goal.loop-g-smaller
-loop-g-smaller c =
-    let x = c.args in
-    let t = next_place x.s.now x.g x.stamp x.at x.low c.requires.shaped c.requires.edges_there.0 c.loop-g.i x.w.now c.loop-g.w c.loop-g.v c.requires.g_in_bounds.0 c.loop-g.invariant c.edge_at-e.result c.edge_at-e.ensures
-    c.if-e.false in
-    omega (arith, t.0, t.1)
-
-pub loop-g-preserved : goal.loop-g-preserved
-loop-g-preserved c =
-    let x = c.args in
-    going_more x.s.now x.g x.stamp x.at x.low c.requires.shaped c.requires.edges_there.0 c.loop-g.i x.w.now c.loop-g.w c.loop-g.v c.requires.g_in_bounds.0 c.loop-g.invariant c.edge_at-e.result c.edge_at-e.ensures
-    c.mark_edge-v.new.w c.mark_edge-v.result c.mark_edge-v.ensures c.if-e.false
+pub returns : goal.returns
+returns c =
+    λ n there. (taken_all c.loop-e.invariant.2 c.in-None.ensures.steps n there).0

@@ -14,7 +14,7 @@ use Rattle.netread.proofs.put_pins.Goals as goal
 pub mark_pins-requires : goal.mark_pins-requires
 mark_pins-requires c =
     let x = c.args in
-    let lent = lent-part (tiles_at x.g) x.g.t x.w.now c.tiles_at-from.result c.links_at-to.result c.tiles_at-from.ensures.value c.links_at-to.ensures.value in record { shaped = c.requires.shaped; t_in_bounds = (omega (arith, ap length lent, part-long (tiles_at x.g) x.g.t x.w.now (omega (arith, c.requires.g_in_bounds.0))), c.requires.g_in_bounds.1); pins_there = c.requires.pins_there }
+    let lent = lent-part (tiles_at x.g) x.g.t x.w.now c.tiles_at-from.result c.links_at-to.result c.tiles_at-from.ensures.value c.links_at-to.ensures.value in record { t_in_bounds = (omega (arith, ap length lent, part-long (tiles_at x.g) x.g.t x.w.now (omega (arith, c.requires.g_in_bounds.0))), c.requires.g_in_bounds.1); pins_there = c.requires.pins_there }
 
 pub returns : goal.returns
 returns c =

@@ -3,7 +3,7 @@
 -- Assumes nothing.
 use mathlib.Core.Path.{refl}
 use borrow.Author.Tests.{not-true, not-false}
-use Rattle.nets.specs.Rings.{ring-there, ring-counted, no-ring-cut}
+use Rattle.nets.specs.Rings.{ring-there, no-ring-cut}
 use Rattle.nets.proofs.cut_rings.Goals as goal
 use Rattle.nets.proofs.cut_rings.Goals.{Else-not-e}
 
@@ -11,10 +11,6 @@ pub returns-then-not-e : goal.returns-then-not-e
 returns-then-not-e c =
     let x = c.args in
     let r = c.requires.g_in_bounds in record { cut_done = λ n at. no-ring-cut x.s.now x.g x.p.from x.e.from x.e.ring n at (not-true _ c.if-not-e.true) x.stamp x.w.now r.2 r.3; w_len_unchanged = refl }
-
-pub cut_net-requires : goal.cut_net-requires
-cut_net-requires c =
-    let x = c.args in record { shaped = c.requires.shaped; g_in_bounds = c.requires.g_in_bounds; ring_counted = ring-counted x.s.now x.g x.p.from x.e.from x.e.ring x.w.now c.requires.lines_counted (not-false _ c.if-not-e.false) }
 
 pub returns : goal.returns
 returns c =

@@ -2,9 +2,9 @@
 -- Assumes nothing.
 use mathlib.Core.List.{List}
 use mathlib.Core.Path.{◌≡◌, ap, ◌∙◌}
-use Prim.Native.Nat.{ℕ, ◌+◌, ◌-◌, ◌≤◌}
+use Prim.Native.Nat.{ℕ, ◌+◌, ◌≤◌}
 use native.Mathlib.Omega.{arith}
-use lib.ListN.{length, take, drop}
+use lib.ListN.{length}
 use Rattle.layout.specs.Shapes.{sizes_of}
 use Rattle.layout.specs.Areas.{tiles_at}
 use Rattle.layout.specs.Lent.{lent-part, put-part, put-outside}
@@ -14,12 +14,6 @@ use Rattle.lines.specs.Told.{mapped}
 use Rattle.pins.specs.Pins.{pins_told, pins_marked}
 use Rattle.text.specs.Refusals.{place_of}
 use Rattle.nets.proofs.net_pins.Goals as goal
-
-pub pins_line-requires : goal.pins_line-requires
-pins_line-requires c =
-    let x = c.args in
-    let lent = lent-part (tiles_at x.g) x.g.t x.w.now c.tiles_at-from.result c.links_at-to.result c.tiles_at-from.ensures.value c.links_at-to.ensures.value in
-    let long : x.g.t ≤ length (take (c.links_at-to.result - c.tiles_at-from.result) (drop c.tiles_at-from.result x.w.now)) = omega (arith, ap length lent, part-long (tiles_at x.g) x.g.t x.w.now (omega (arith, c.requires.g_in_bounds.0))) in record { shaped = c.requires.shaped; t_in_bounds = (long, c.requires.g_in_bounds.1, c.requires.g_in_bounds.2, c.requires.g_in_bounds.3, c.requires.g_in_bounds.4); older = rw lent c.requires.older }
 
 pub returns : goal.returns
 returns c =

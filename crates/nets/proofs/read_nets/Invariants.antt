@@ -1,7 +1,6 @@
 -- `read_nets` meets its contract.
 -- Assumes nothing.
 use mathlib.Core.Path.{◌≡◌}
-use Prim.Native.Nat.{◌-◌}
 use lib.ListN.{length}
 use Rattle.layout.specs.Shapes.{sizes_of}
 use Rattle.model.specs.Read.{nets}
@@ -11,6 +10,3 @@ use Rattle.nets.proofs.read_nets.Given as goal
 
 abbrev pub invariant-loop-i : goal.invariant-loop-i
 invariant-loop-i l = Midway l.s l.g l.n l.initial.c.line l.initial.w l.w l.table (nets (sizes_of l.g) 1 l.n (place_of l.s l.initial.c)) l.c l.entries l.i × (length l.table ≡ length l.initial.table)
-
-abbrev pub decreases-loop-i : goal.decreases-loop-i
-decreases-loop-i l = l.n - l.i

@@ -15,18 +15,18 @@ module _ (k : After-keeps) where
 
 pub keeps-requires : goal.keeps-requires
 keeps-requires c =
-    record { shaped = c.requires.shaped; g_in_bounds = (c.requires.g_in_bounds.0, c.requires.g_in_bounds.3, c.requires.g_in_bounds.4) }
+    record { g_in_bounds = (c.requires.g_in_bounds.0, c.requires.g_in_bounds.3, c.requires.g_in_bounds.4) }
 
 pub add_entry-requires : goal.add_entry-requires
 add_entry-requires c =
-    record { shaped = c.requires.shaped; g_in_bounds = (omega (arith, c.requires.g_in_bounds.0), c.requires.g_in_bounds.1, c.requires.g_in_bounds.2, c.requires.g_in_bounds.3, c.requires.g_in_bounds.4) }
+    record { g_in_bounds = (omega (arith, c.requires.g_in_bounds.0), c.requires.g_in_bounds.1, c.requires.g_in_bounds.2, c.requires.g_in_bounds.3, c.requires.g_in_bounds.4) }
 
 pub returns-then-keeps : goal.returns-then-keeps
 returns-then-keeps c =
     let x = c.args in
     λ xs so_far.
     kept-added x.g x.stamp x.w.now xs x.v so_far (edge_of x.g (entry (goal.at.returns-then-keeps c).After-keeps)) c.keeps.result c.keeps.ensures c.if-keeps.true
-    (placed x.g c.requires.shaped (entry (goal.at.returns-then-keeps c).After-keeps) c.requires.g_in_bounds.4 c.requires.g_in_bounds.3).known c.add_entry.result c.add_entry.ensures
+    (placed x.g c.args.g.shaped (entry (goal.at.returns-then-keeps c).After-keeps) c.requires.g_in_bounds.4 c.requires.g_in_bounds.3).known c.add_entry.result c.add_entry.ensures
 
 pub returns : goal.returns
 returns c =

@@ -17,32 +17,30 @@ use Rattle.order.specs.Density.{Weighed, weighed-none, weighed-sums}
 use Rattle.order.specs.Ready.{Ready, SomeNet}
 use Rattle.order.proofs.Scores.{line-ring, stamp-small}
 use Rattle.order.proofs.cut_density.Goals as goal
-use Rattle.order.proofs.cut_density.Goals.{After-index-edges, After-mark_net}
+use Rattle.order.proofs.cut_density.Goals.{After-at-2, After-mark_net}
 
 -- the lines of the net
-module _ (c : After-index-edges) where
+module _ (c : After-at-2) where
   abbrev pins : ℕ
-  pins = c.index-pins.result
+  pins = get_or c.args.table.now c.at.result 0
 
   abbrev edges : ℕ
-  edges = c.index-edges.result
+  edges = get_or c.args.table.now c.at-2.result 0
 
   abbrev o : SomeNet c.args.s.now c.args.g c.args.a c.args.w.now c.args.table.now c.args.i
   o = c.requires.some_net.0
 
   pins-is : pins ≡ get_or c.args.table.now (pins_column c.args.i) 0
-  pins-is =
-      c.index-pins.ensures.0
-      ∙ ap (λ (k : ℕ). get_or c.args.table.now k 0) c.pins_column.ensures.value
+  pins-is = ap (λ (k : ℕ). get_or c.args.table.now k 0) c.at.ensures.value
 
   edges-is : edges ≡ get_or c.args.table.now (edges_column c.args.i) 0
-  edges-is = c.index-edges.ensures.0 ∙ ap (λ (k : ℕ). get_or c.args.table.now k 0) c.edges_column.ensures.value
+  edges-is = ap (λ (k : ℕ). get_or c.args.table.now k 0) c.at-2.ensures.value
 
   ring : (lent : Lent) (j : Job) → Ready c.args.s.now c.args.g c.args.a c.args.w.now c.args.table.now lent j → (h : c.args.i < net_count j)
       → RingAt c.args.s.now c.args.g pins edges (net_of j (suc c.args.i))
   ring lent j ready h =
       let x = c.args in
-      line-ring x.s.now x.g x.a x.w.now x.table.now lent j ready x.i h c.requires.shaped c.requires.some_net.1 pins edges pins-is edges-is
+      line-ring x.s.now x.g x.a x.w.now x.table.now lent j ready x.i h c.args.g.shaped c.requires.some_net.1 pins edges pins-is edges-is
 
   here : RingAt c.args.s.now c.args.g pins edges (net_of o.job (suc c.args.i))
   here = ring o.lent o.job o.ready o.there
@@ -55,13 +53,13 @@ module _ (m : After-mark_net) where
   abbrev w' : List ℕ
   w' = m.mark_net.new.w
 
-  marked : CutMarked m.args.g (m.args.a.stamp + m.args.i) (net_of (o (goal.at.After-mark_net m).After-index-edges).job (suc m.args.i)) m.args.w.now w' m.mark_net.result
-  marked = m.mark_net.ensures (net_of (o (goal.at.After-mark_net m).After-index-edges).job (suc m.args.i)) (here (goal.at.After-mark_net m).After-index-edges)
+  marked : CutMarked m.args.g (m.args.a.stamp + m.args.i) (net_of (o (goal.at.After-mark_net m).After-at-2).job (suc m.args.i)) m.args.w.now w' m.mark_net.result
+  marked = m.mark_net.ensures (net_of (o (goal.at.After-mark_net m).After-at-2).job (suc m.args.i)) (here (goal.at.After-mark_net m).After-at-2)
 
   again : Remarked m.args.g (m.args.a.stamp + (m.args.i + 1)) m.args.w.now w'
   again =
       let x = m.args in
-      cut-remarked x.g (x.a.stamp + x.i) (x.a.stamp + (x.i + 1)) (net_of (o (goal.at.After-mark_net m).After-index-edges).job (suc x.i)) x.w.now w' m.mark_net.result marked (omega arith)
+      cut-remarked x.g (x.a.stamp + x.i) (x.a.stamp + (x.i + 1)) (net_of (o (goal.at.After-mark_net m).After-at-2).job (suc x.i)) x.w.now w' m.mark_net.result marked (omega arith)
 
 -- gamma is 0
 pub returns-then-a-eq0 : goal.returns-then-a-eq0
@@ -70,17 +68,16 @@ returns-then-a-eq0 c =
 
 pub mark_net-requires : goal.mark_net-requires
 mark_net-requires c =
-    record { shaped = c.requires.shaped; g_in_bounds = (c.requires.g_in_bounds.0, small (goal.at.mark_net-requires c).After-index-edges, c.requires.g_in_bounds.1.marks, c.requires.g_in_bounds.1.links); ring_there = record { net = net_of (o (goal.at.mark_net-requires c).After-index-edges).job (suc c.args.i); lines = here (goal.at.mark_net-requires c).After-index-edges } }
+    record { g_in_bounds = (c.requires.g_in_bounds.0, small (goal.at.mark_net-requires c).After-at-2, c.requires.g_in_bounds.1.marks, c.requires.g_in_bounds.1.links); ring_there = record { net = net_of (o (goal.at.mark_net-requires c).After-at-2).job (suc c.args.i); lines = here (goal.at.mark_net-requires c).After-at-2 } }
 
 pub kept_density-requires : goal.kept_density-requires
 kept_density-requires c =
     let x = c.args in
-    let net = net_of (o (goal.at.kept_density-requires c).After-index-edges).job (suc x.i) in record {
-      shaped = c.requires.shaped;
+    let net = net_of (o (goal.at.kept_density-requires c).After-at-2).job (suc x.i) in record {
       g_in_bounds = omega (arith, c.requires.g_in_bounds.0, (marked (goal.at.kept_density-requires c).After-mark_net).around.long);
       edges_there = (
-        entries-there x.s.now x.g c.requires.shaped (pins (goal.at.kept_density-requires c).After-index-edges) (edges (goal.at.kept_density-requires c).After-index-edges) net (here (goal.at.kept_density-requires c).After-index-edges),
-        some-entry x.s.now x.g c.requires.shaped (pins (goal.at.kept_density-requires c).After-index-edges) (edges (goal.at.kept_density-requires c).After-index-edges) net (here (goal.at.kept_density-requires c).After-index-edges),
+        entries-there x.s.now x.g c.args.g.shaped (pins (goal.at.kept_density-requires c).After-at-2) (edges (goal.at.kept_density-requires c).After-at-2) net (here (goal.at.kept_density-requires c).After-at-2),
+        some-entry x.s.now x.g c.args.g.shaped (pins (goal.at.kept_density-requires c).After-at-2) (edges (goal.at.kept_density-requires c).After-at-2) net (here (goal.at.kept_density-requires c).After-at-2),
       );
     }
 
@@ -93,10 +90,10 @@ returns c =
     let x = c.args in record {
       weighed = (λ lent j ready h.
           let net = net_of j (suc x.i) in
-          let at = ring (goal.at.returns c).After-index-edges lent j ready h in
+          let at = ring (goal.at.returns c).After-at-2 lent j ready h in
           weighed-sums x.a.gamma j net c.kept_density.result
           (c.kept_density.ensures j net
-          (kept_at x.s.now x.g (pins (goal.at.returns c).After-index-edges) (edges (goal.at.returns c).After-index-edges) (x.a.stamp + x.i) net at x.w.now (w' (goal.at.returns c).After-mark_net) c.mark_net.result (c.mark_net.ensures net at))
+          (kept_at x.s.now x.g (pins (goal.at.returns c).After-at-2) (edges (goal.at.returns c).After-at-2) (x.a.stamp + x.i) net at x.w.now (w' (goal.at.returns c).After-mark_net) c.mark_net.result (c.mark_net.ensures net at))
           (λ e b. (again (goal.at.returns c).After-mark_net).out.low (demand_at x.g + e) (omega arith) ∙ ready.demands e b)
           (λ e b. (again (goal.at.returns c).After-mark_net).out.low (flat_at x.g + e) (omega arith) ∙ ready.capacities e b)));
       remarked = again (goal.at.returns c).After-mark_net;

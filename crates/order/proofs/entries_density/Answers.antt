@@ -1,64 +1,35 @@
--- `entries_density` meets its contract. The loop's invariant: the entries before the place at hand are summed.
+-- `entries_density` meets its contract. The loop's invariant: the entries that came are summed.
 -- Assumes nothing.
-use mathlib.Core.List.{List, [], ◌∷◌, ◌++◌}
-use Prim.Native.Nat.{ℕ}
 use native.Mathlib.Omega.{arith}
-use Rattle.known.specs.Taken.{taken_start, taken-short, taken-inside, taken-room, taken-last, taken_more, taken-place}
+use Rattle.known.specs.Taken.{taken_start, taken_all, taken-inside, taken-room, taken_more}
 use Rattle.scan.specs.Pins.{triple}
 use Rattle.ways.specs.Entry.{edge_of, placed}
-use Rattle.order.specs.Sums.{Sums, sums_none, sums-more, sums-job}
+use Rattle.order.specs.Sums.{sums_none, sums-more, sums-job}
 use Rattle.order.proofs.entries_density.Goals as goal
-use Rattle.order.proofs.entries_density.Goals.{After-add_entry-v, At-loop-g}
 
--- the entry at hand
-module _ (l : At-loop-g) where
-  abbrev P : List ℕ → Type 0
-  P es = Sums l.args.g l.args.w.now es l.loop-g.v
-
--- it is summed
-module _ (d : After-add_entry-v) where
-  abbrev Q : List ℕ → Type 0
-  Q es = Sums d.args.g d.args.w.now es d.add_entry-v.result
-
-  one_more : let k = d.edge_at-e.result in Q (d.loop-g.invariant.so_far ++ (edge_of d.args.g (triple k.x k.y k.third) ∷ []))
-  one_more =
-      let x = d.args in
-      let n = d.edge_at-e.result in
-      let k = taken-inside x.s.now x.g x.at d.requires.edges_there.0 d.requires.shaped d.loop-g.i (P (goal.at.After-add_entry-v d).At-loop-g) d.loop-g.invariant n d.edge_at-e.ensures in
-      sums-more x.g x.w.now d.loop-g.invariant.so_far d.loop-g.v d.loop-g.invariant.holds (edge_of x.g (triple n.x n.y n.third))
-      (placed x.g d.requires.shaped (triple n.x n.y n.third) k.1 k.0).known d.add_entry-v.result d.add_entry-v.ensures
-
-pub loop-g-init : goal.loop-g-init
-loop-g-init c =
-    let x = c.args in
-    taken_start x.s.now x.g x.at c.requires.edges_there.0 c.requires.edges_there.1 (λ es. Sums x.g x.w.now es (record { demand = 0; capacity = 0 })) (sums_none x.g x.w.now)
-
-pub edge_at-e-requires : goal.edge_at-e-requires
-edge_at-e-requires c =
-    taken-short c.args.s.now c.args.g c.args.at c.requires.edges_there.0 c.requires.shaped c.loop-g.i (P (goal.at.edge_at-e-requires c).At-loop-g) c.loop-g.invariant
+pub loop-e-init : goal.loop-e-init
+loop-e-init c =
+    taken_start c.args.g.shaped c.requires.edges_there.0 c.requires.edges_there.1 (rw c.into_iter-e-iterator.ensures.into_iter_gives c.edges_from-e-items.ensures)
+    (sums_none c.args.g c.args.w.now)
 
 pub add_entry-v-requires : goal.add_entry-v-requires
 add_entry-v-requires c =
-    let x = c.args in
-    let k = taken-inside x.s.now x.g x.at c.requires.edges_there.0 c.requires.shaped c.loop-g.i (P (goal.at.add_entry-v-requires c).At-loop-g) c.loop-g.invariant c.edge_at-e.result c.edge_at-e.ensures in
-    let few = taken-room x.s.now x.g x.at c.requires.edges_there.0 c.requires.shaped c.loop-g.i (P (goal.at.add_entry-v-requires c).At-loop-g) c.loop-g.invariant c.edge_at-e.result c.edge_at-e.ensures in
-    let sums = c.loop-g.invariant.holds in record { shaped = c.requires.shaped; g_in_bounds = (c.requires.g_in_bounds, omega (arith, few, c.requires.shaped.e_most, sums.demand_most), omega (arith, few, c.requires.shaped.e_most, sums.capacity_most), k.0, k.1) }
+    let l = c.loop-e.invariant.2 in
+    let k = taken-inside l c.in-Some.e c.next.new.self c.in-Some.ensures.steps in
+    let few = taken-room l c.in-Some.e c.next.new.self c.in-Some.ensures.steps c.requires.edges_there.0 in
+    let most = c.args.g.shaped.e_most in
+    record { g_in_bounds = (c.requires.g_in_bounds, omega (arith, few, most, l.holds.demand_most), omega (arith, few, most, l.holds.capacity_most), k.0, k.1) }
 
-pub returns-then-e : goal.returns-then-e
-returns-then-e c =
+pub loop-e-preserved : goal.loop-e-preserved
+loop-e-preserved c =
     let x = c.args in
-    λ j n there. sums-job x.g x.w.now n.entries c.add_entry-v.result
-    (taken-last x.s.now x.g x.at c.requires.edges_there.0 c.requires.shaped c.loop-g.i (P (goal.at.returns-then-e c).At-loop-g) c.loop-g.invariant c.edge_at-e.result c.edge_at-e.ensures c.if-e.true
-    (Q (goal.at.returns-then-e c).After-add_entry-v) (one_more (goal.at.returns-then-e c).After-add_entry-v) n there) j
+    let l = c.loop-e.invariant.2 in
+    let n = c.in-Some.e in
+    let k = taken-inside l n c.next.new.self c.in-Some.ensures.steps in
+    taken_more l n c.next.new.self c.in-Some.ensures.steps x.g.shaped
+    (sums-more x.g x.w.now l.so_far c.loop-e.v l.holds (edge_of x.g (triple n.x n.y n.third))
+    (placed x.g x.g.shaped (triple n.x n.y n.third) k.1 k.0).known c.add_entry-v.result c.add_entry-v.ensures)
 
-pub loop-g-smaller : goal.loop-g-smaller
-loop-g-smaller c =
-    let x = c.args in
-    let t = taken-place x.s.now x.g x.at c.requires.edges_there.0 c.requires.shaped c.loop-g.i (P (goal.at.loop-g-smaller c).At-loop-g) c.loop-g.invariant c.edge_at-e.result c.edge_at-e.ensures c.if-e.false in
-    omega (arith, t.0, t.1)
-
-pub loop-g-preserved : goal.loop-g-preserved
-loop-g-preserved c =
-    let x = c.args in
-    taken_more x.s.now x.g x.at c.requires.edges_there.0 c.requires.shaped c.loop-g.i (P (goal.at.loop-g-preserved c).At-loop-g) c.loop-g.invariant c.edge_at-e.result c.edge_at-e.ensures c.if-e.false
-    (Q (goal.at.loop-g-preserved c).After-add_entry-v) (one_more (goal.at.loop-g-preserved c).After-add_entry-v)
+pub returns : goal.returns
+returns c =
+    λ j n there. sums-job c.args.g c.args.w.now n.entries c.loop-e.v (taken_all c.loop-e.invariant.2 c.in-None.ensures.steps n there) j

@@ -1,13 +1,8 @@
--- `entries_density` meets its contract. The loop's invariant: the entries before the place at hand are summed.
+-- `entries_density` meets its contract. The loop's invariant: the entries that came are summed.
 -- Assumes nothing.
-use Prim.Native.Nat.{◌-◌}
-use lib.ListN.{length}
-use Rattle.known.specs.Taken.{Taken}
+use Rattle.known.specs.Taken.{Taking}
 use Rattle.order.specs.Sums.{Sums}
 use Rattle.order.proofs.entries_density.Given as goal
 
-abbrev pub invariant-loop-g : goal.invariant-loop-g
-invariant-loop-g l = Taken l.s l.g l.at l.i (λ es. Sums l.g l.w es l.v)
-
-abbrev pub decreases-loop-g : goal.decreases-loop-g
-decreases-loop-g l = length l.s - l.i
+abbrev pub invariant-loop-e : goal.invariant-loop-e
+invariant-loop-e l = Taking l.s l.g l.at l.e-iterator (λ es. Sums l.g l.w es l.v)

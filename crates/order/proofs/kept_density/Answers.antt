@@ -1,59 +1,29 @@
--- `kept_density` meets its contract. The loop's invariant: of the entries before the place at hand those are summed that are marked.
+-- `kept_density` meets its contract. The loop's invariant: of the entries that came those are summed that are marked.
 -- Assumes nothing.
-use mathlib.Core.List.{List, [], ◌∷◌, ◌++◌}
-use Prim.Native.Nat.{ℕ}
 use native.Mathlib.Omega.{arith}
-use Rattle.known.specs.Taken.{taken_start, taken-short, taken-inside, taken-room, taken-last, taken_more, taken-place}
-use Rattle.scan.specs.Pins.{triple}
-use Rattle.ways.specs.Entry.{edge_of}
-use Rattle.order.specs.Sums.{KeptSums, kept-none, kept-job}
+use Rattle.known.specs.Taken.{taken_start, taken_all, taken-inside, taken-room, taken_more}
+use Rattle.order.specs.Sums.{kept-none, kept-job}
 use Rattle.order.proofs.kept_density.Goals as goal
-use Rattle.order.proofs.kept_density.Goals.{After-add_kept-v, At-loop-g}
 
--- the entry at hand
-module _ (l : At-loop-g) where
-  abbrev P : List ℕ → Type 0
-  P es = KeptSums l.args.g l.args.stamp l.args.w.now es l.loop-g.v
-
--- it is summed
-module _ (d : After-add_kept-v) where
-  abbrev Q : List ℕ → Type 0
-  Q es = KeptSums d.args.g d.args.stamp d.args.w.now es d.add_kept-v.result
-
-  one_more : let k = d.edge_at-e.result in Q (d.loop-g.invariant.so_far ++ (edge_of d.args.g (triple k.x k.y k.third) ∷ []))
-  one_more = d.add_kept-v.ensures d.loop-g.invariant.so_far d.loop-g.invariant.holds
-
-pub loop-g-init : goal.loop-g-init
-loop-g-init c =
-    let x = c.args in
-    taken_start x.s.now x.g x.at c.requires.edges_there.0 c.requires.edges_there.1 (λ es. KeptSums x.g x.stamp x.w.now es (record { demand = 0; capacity = 0 })) (kept-none x.g x.stamp x.w.now)
-
-pub edge_at-e-requires : goal.edge_at-e-requires
-edge_at-e-requires c =
-    taken-short c.args.s.now c.args.g c.args.at c.requires.edges_there.0 c.requires.shaped c.loop-g.i (P (goal.at.edge_at-e-requires c).At-loop-g) c.loop-g.invariant
+pub loop-e-init : goal.loop-e-init
+loop-e-init c =
+    taken_start c.args.g.shaped c.requires.edges_there.0 c.requires.edges_there.1 (rw c.into_iter-e-iterator.ensures.into_iter_gives c.edges_from-e-items.ensures)
+    (kept-none c.args.g c.args.stamp c.args.w.now)
 
 pub add_kept-v-requires : goal.add_kept-v-requires
 add_kept-v-requires c =
-    let x = c.args in
-    let k = taken-inside x.s.now x.g x.at c.requires.edges_there.0 c.requires.shaped c.loop-g.i (P (goal.at.add_kept-v-requires c).At-loop-g) c.loop-g.invariant c.edge_at-e.result c.edge_at-e.ensures in
-    let few = taken-room x.s.now x.g x.at c.requires.edges_there.0 c.requires.shaped c.loop-g.i (P (goal.at.add_kept-v-requires c).At-loop-g) c.loop-g.invariant c.edge_at-e.result c.edge_at-e.ensures in
-    let sums = c.loop-g.invariant.holds in record { shaped = c.requires.shaped; g_in_bounds = (c.requires.g_in_bounds, omega (arith, few, c.requires.shaped.e_most, sums.demand_most), omega (arith, few, c.requires.shaped.e_most, sums.capacity_most), k.0, k.1) }
+    let l = c.loop-e.invariant.2 in
+    let k = taken-inside l c.in-Some.e c.next.new.self c.in-Some.ensures.steps in
+    let few = taken-room l c.in-Some.e c.next.new.self c.in-Some.ensures.steps c.requires.edges_there.0 in
+    let most = c.args.g.shaped.e_most in
+    record { g_in_bounds = (c.requires.g_in_bounds, omega (arith, few, most, l.holds.demand_most), omega (arith, few, most, l.holds.capacity_most), k.0, k.1) }
 
-pub returns-then-e : goal.returns-then-e
-returns-then-e c =
-    let x = c.args in
-    λ j n there. kept-job x.s.now x.g x.at x.stamp x.w.now n there c.add_kept-v.result
-    (taken-last x.s.now x.g x.at c.requires.edges_there.0 c.requires.shaped c.loop-g.i (P (goal.at.returns-then-e c).At-loop-g) c.loop-g.invariant c.edge_at-e.result c.edge_at-e.ensures c.if-e.true
-    (Q (goal.at.returns-then-e c).After-add_kept-v) (one_more (goal.at.returns-then-e c).After-add_kept-v) n there.edges) j
+pub loop-e-preserved : goal.loop-e-preserved
+loop-e-preserved c =
+    let l = c.loop-e.invariant.2 in
+    taken_more l c.in-Some.e c.next.new.self c.in-Some.ensures.steps c.args.g.shaped (c.add_kept-v.ensures l.so_far l.holds)
 
-pub loop-g-smaller : goal.loop-g-smaller
-loop-g-smaller c =
+pub returns : goal.returns
+returns c =
     let x = c.args in
-    let t = taken-place x.s.now x.g x.at c.requires.edges_there.0 c.requires.shaped c.loop-g.i (P (goal.at.loop-g-smaller c).At-loop-g) c.loop-g.invariant c.edge_at-e.result c.edge_at-e.ensures c.if-e.false in
-    omega (arith, t.0, t.1)
-
-pub loop-g-preserved : goal.loop-g-preserved
-loop-g-preserved c =
-    let x = c.args in
-    taken_more x.s.now x.g x.at c.requires.edges_there.0 c.requires.shaped c.loop-g.i (P (goal.at.loop-g-preserved c).At-loop-g) c.loop-g.invariant c.edge_at-e.result c.edge_at-e.ensures c.if-e.false
-    (Q (goal.at.loop-g-preserved c).After-add_kept-v) (one_more (goal.at.loop-g-preserved c).After-add_kept-v)
+    λ j n there. kept-job x.s.now x.g x.at x.stamp x.w.now n there c.loop-e.v (taken_all c.loop-e.invariant.2 c.in-None.ensures.steps n there.edges) j

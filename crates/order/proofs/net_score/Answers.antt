@@ -15,12 +15,12 @@ use Rattle.order.specs.Ready.{Ready, SomeNet}
 use Rattle.order.specs.declared.Density.{Density}
 use Rattle.order.proofs.Scores.{line-there, line_at, line-all, kept-length, weights-small, pins_small, demand-small, score-is}
 use Rattle.order.proofs.net_score.Goals as goal
-use Rattle.order.proofs.net_score.Goals.{After-weighed_density-x, After-wide-pins}
+use Rattle.order.proofs.net_score.Goals.{After-weighed_density-x, After-from-pins}
 
 -- what the code reads of the net's row
-module _ (c : After-wide-pins) where
+module _ (c : After-from-pins) where
   abbrev p : ℕ
-  p = c.index-at.result
+  p = get_or c.args.table.now c.at.result 0
 
   abbrev dropped : ℕ
   dropped = c.dropped_in-dropped.result
@@ -29,21 +29,19 @@ module _ (c : After-wide-pins) where
   edges = c.entries_in.result - dropped
 
   abbrev pins : ℕ
-  pins = c.wide-pins.result
+  pins = c.from-pins.result
 
   abbrev o : SomeNet c.args.s.now c.args.g c.args.a c.args.w.now c.args.table.now c.args.i
   o = c.requires.some_net
 
   p-is : p ≡ get_or c.args.table.now (edges_column c.args.i) 0
-  p-is =
-      c.index-at.ensures.0
-      ∙ ap (λ (k : ℕ). get_or c.args.table.now k 0) c.edges_column.ensures.value
+  p-is = ap (λ (k : ℕ). get_or c.args.table.now k 0) c.at.ensures.value
 
   edges-is : edges ≡ entries_in c.args.table.now c.args.i - dropped_in c.args.table.now c.args.i
   edges-is = ap₂ (λ (x y : ℕ). x - y) c.entries_in.ensures.0 c.dropped_in-dropped.ensures.0
 
   pins-is : pins ≡ get_or c.args.table.now (tiles_column c.args.i) 0
-  pins-is = c.wide-pins.ensures.0 ∙ ap (λ (k : ℕ). get_or c.args.table.now k 0) (omega arith)
+  pins-is = c.from-pins.ensures ∙ ap (λ (k : ℕ). get_or c.args.table.now k 0) (omega arith)
 
   -- x gives the density term of each such job
   abbrev Weighs : Density → Type 0
@@ -68,15 +66,15 @@ module _ (c : After-wide-pins) where
         → get_or c.args.table.now (tiles_column c.args.i) 0 ≡ different_tiles (net_of j (suc c.args.i)).pins → r ≡ scores.score j (net_of j (suc c.args.i))
     scored r r-is lent j ready h are =
         let y = c.args in
-        score-is y.s.now y.g y.a y.w.now y.table.now lent j ready y.i h edges pins x edges-is c.requires.shaped pins-is are (weighs lent j ready h) r r-is
+        score-is y.s.now y.g y.a y.w.now y.table.now lent j ready y.i h edges pins x edges-is c.args.g.shaped pins-is are (weighs lent j ready h) r r-is
 
 -- D and C over all entries
-weighs-all : (c : After-weighed_density-x) → Weighs (goal.at.After-weighed_density-x c).After-wide-pins c.weighed_density-x.result
+weighs-all : (c : After-weighed_density-x) → Weighs (goal.at.After-weighed_density-x c).After-from-pins c.weighed_density-x.result
 weighs-all c lent j ready h =
     let y = c.args in
     c.weighed_density-x.ensures j (net_of j (suc y.i))
-    (line_at y.s.now y.g y.a y.w.now y.table.now lent j ready y.i h (p (goal.at.After-weighed_density-x c).After-wide-pins) (p-is (goal.at.After-weighed_density-x c).After-wide-pins))
-    (line-all y.s.now y.g y.a y.w.now y.table.now lent j ready y.i h c.requires.shaped
+    (line_at y.s.now y.g y.a y.w.now y.table.now lent j ready y.i h (p (goal.at.After-weighed_density-x c).After-from-pins) (p-is (goal.at.After-weighed_density-x c).After-from-pins))
+    (line-all y.s.now y.g y.a y.w.now y.table.now lent j ready y.i h c.args.g.shaped
     (omega (arith, c.dropped_in-dropped.ensures.0)))
     ready.demands ready.capacities
 
@@ -85,16 +83,16 @@ pub overflow_sub-edges : goal.overflow_sub-edges
 overflow_sub-edges c =
     let y = c.args in
     let o = c.requires.some_net in
-    let k = kept-length y.s.now y.g y.a y.w.now y.table.now o.lent o.job o.ready y.i o.there c.requires.shaped in
+    let k = kept-length y.s.now y.g y.a y.w.now y.table.now o.lent o.job o.ready y.i o.there c.args.g.shaped in
     omega (arith, k.0, c.entries_in.ensures.0, c.dropped_in-dropped.ensures.0)
 
 pub cut_density-x-requires : goal.cut_density-x-requires
 cut_density-x-requires c =
-    record { shaped = c.requires.shaped; g_in_bounds = c.requires.g_in_bounds; some_net = (o (goal.at.cut_density-x-requires c).After-wide-pins, omega (arith, c.dropped_in-dropped.ensures.0)) }
+    record { g_in_bounds = c.requires.g_in_bounds; some_net = (o (goal.at.cut_density-x-requires c).After-from-pins, omega (arith, c.dropped_in-dropped.ensures.0)) }
 
 pub score-requires : goal.score-requires
 score-requires c =
-    asked (goal.at.score-requires c).After-wide-pins c.cut_density-x.result c.cut_density-x.ensures.weighed
+    asked (goal.at.score-requires c).After-from-pins c.cut_density-x.result c.cut_density-x.ensures.weighed
 
 pub shape_of-w-then-dropped-ne0 : goal.shape_of-w-then-dropped-ne0
 shape_of-w-then-dropped-ne0 c =
@@ -102,16 +100,16 @@ shape_of-w-then-dropped-ne0 c =
 
 pub returns-then-dropped-ne0 : goal.returns-then-dropped-ne0
 returns-then-dropped-ne0 c =
-    record { value = scored (goal.at.returns-then-dropped-ne0 c).After-wide-pins c.cut_density-x.result c.cut_density-x.ensures.weighed c.score.result c.score.ensures.value; upper_bound = c.score.ensures.upper_bound; remarked = c.cut_density-x.ensures.remarked }
+    record { value = scored (goal.at.returns-then-dropped-ne0 c).After-from-pins c.cut_density-x.result c.cut_density-x.ensures.weighed c.score.result c.score.ensures.value; upper_bound = c.score.ensures.upper_bound; remarked = c.cut_density-x.ensures.remarked }
 
 pub weighed_density-x-requires : goal.weighed_density-x-requires
 weighed_density-x-requires c =
-    let y = c.args in record { shaped = c.requires.shaped; g_in_bounds = omega (arith, c.requires.g_in_bounds.0); edges_there = line-there y.s.now y.g y.a y.w.now y.table.now (o (goal.at.weighed_density-x-requires c).After-wide-pins).lent (o (goal.at.weighed_density-x-requires c).After-wide-pins).job (o (goal.at.weighed_density-x-requires c).After-wide-pins).ready y.i (o (goal.at.weighed_density-x-requires c).After-wide-pins).there c.requires.shaped (p (goal.at.weighed_density-x-requires c).After-wide-pins) (p-is (goal.at.weighed_density-x-requires c).After-wide-pins) }
+    let y = c.args in record { g_in_bounds = omega (arith, c.requires.g_in_bounds.0); edges_there = line-there y.s.now y.g y.a y.w.now y.table.now (o (goal.at.weighed_density-x-requires c).After-from-pins).lent (o (goal.at.weighed_density-x-requires c).After-from-pins).job (o (goal.at.weighed_density-x-requires c).After-from-pins).ready y.i (o (goal.at.weighed_density-x-requires c).After-from-pins).there c.args.g.shaped (p (goal.at.weighed_density-x-requires c).After-from-pins) (p-is (goal.at.weighed_density-x-requires c).After-from-pins) }
 
 pub score-requires-2 : goal.score-requires-2
 score-requires-2 c =
-    asked (goal.at.score-requires-2 c).After-wide-pins c.weighed_density-x.result (weighs-all (goal.at.score-requires-2 c).After-weighed_density-x)
+    asked (goal.at.score-requires-2 c).After-from-pins c.weighed_density-x.result (weighs-all (goal.at.score-requires-2 c).After-weighed_density-x)
 
 pub returns : goal.returns
 returns c =
-    let y = c.args in record { value = scored (goal.at.returns c).After-wide-pins c.weighed_density-x.result (weighs-all (goal.at.returns c).After-weighed_density-x) c.score-2.result c.score-2.ensures.value; upper_bound = c.score-2.ensures.upper_bound; remarked = remarked-same y.g (y.a.stamp + y.i) (y.a.stamp + (y.i + 1)) y.w.now (omega arith) c.requires.g_in_bounds.1 }
+    let y = c.args in record { value = scored (goal.at.returns c).After-from-pins c.weighed_density-x.result (weighs-all (goal.at.returns c).After-weighed_density-x) c.score-2.result c.score-2.ensures.value; upper_bound = c.score-2.ensures.upper_bound; remarked = remarked-same y.g (y.a.stamp + y.i) (y.a.stamp + (y.i + 1)) y.w.now (omega arith) c.requires.g_in_bounds.1 }

@@ -24,7 +24,7 @@ loop-i-init c =
 
 pub net_score-v-requires : goal.net_score-v-requires
 net_score-v-requires c =
-    record { shaped = c.requires.shaped; g_in_bounds = (omega (arith, c.requires.g_in_bounds.0, c.loop-i.invariant.marks.out.long), c.loop-i.invariant.marks.after); some_net = net (goal.at.net_score-v-requires c).In-loop-i }
+    record { g_in_bounds = (omega (arith, c.requires.g_in_bounds.0, c.loop-i.invariant.marks.out.long), c.loop-i.invariant.marks.after); some_net = net (goal.at.net_score-v-requires c).In-loop-i }
 
 pub put_score-requires : goal.put_score-requires
 put_score-requires c =

@@ -7,9 +7,9 @@ use Rattle.scan.specs.Pins.{pins_of}
 use Rattle.pins.specs.Pins.{start, finish}
 use Rattle.pins.proofs.entries.Given as goal
 
-abbrev pub invariant-loop-g : goal.invariant-loop-g
-invariant-loop-g l = (length l.a ≡ length l.initial.a) × (l.v.tiles + l.c.at ≤ l.i) × (l.v.tiles ≤ length l.s)
+abbrev pub invariant-loop-e : goal.invariant-loop-e
+invariant-loop-e l = (length l.a ≡ length l.initial.a) × (l.v.tiles + l.c.at ≤ l.i) × (l.v.tiles ≤ length l.s)
     × (finish l.g l.stamp l.c.line start l.initial.a (pins_of (drop l.c.at l.s)) ≡ finish l.g l.stamp l.c.line l.v l.a (pins_of (drop l.i l.s)))
 
-abbrev pub decreases-loop-g : goal.decreases-loop-g
-decreases-loop-g l = length l.s - l.i
+abbrev pub decreases-loop-e : goal.decreases-loop-e
+decreases-loop-e l = length l.s - l.i

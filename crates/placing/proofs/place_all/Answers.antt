@@ -14,7 +14,7 @@ use Rattle.placing.specs.Turns.{Start, RowTurn}
 use Rattle.placing.proofs.Loop.{Mid, mid_start, mid-end, turn, net-counted, net-number, row-turn, mid-next}
 use Rattle.flat.specs.Limited.{limit_at}
 use Rattle.placing.proofs.place_all.Goals as goal
-use Rattle.placing.proofs.place_all.Goals.{After-index-i, After-turn_of, Start as Begin}
+use Rattle.placing.proofs.place_all.Goals.{After-at, After-turn_of, Start as Begin}
 
 module _ (z : Begin) where
   -- what the job's start is here
@@ -24,12 +24,15 @@ module _ (z : Begin) where
       Start x.s.now x.job.frame.shape x.job.nets (limit_at x.job.frame.limits) x.w.now x.table.now (length x.answer.now) lent j
 
 -- net i takes its turn
-module _ (c : After-index-i) where
-  told : c.index-i.result ≡ get_or c.loop-k.table (turn_column c.loop-k.k) 0
-  told = c.index-i.ensures.0 ∙ ap (λ (q : ℕ). get_or c.loop-k.table q 0) c.turn_column.ensures.value
+module _ (c : After-at) where
+  abbrev entry : ℕ
+  entry = get_or c.loop-k.table c.at.result 0
 
-  module _ (lent : Lent) (j : Job) (start : StartHere (goal.at.After-index-i c).Start lent j) where
-    counted : 1 ≤ c.index-i.result
+  told : entry ≡ get_or c.loop-k.table (turn_column c.loop-k.k) 0
+  told = ap (λ (q : ℕ). get_or c.loop-k.table q 0) c.at.ensures.value
+
+  module _ (lent : Lent) (j : Job) (start : StartHere (goal.at.After-at c).Start lent j) where
+    counted : 1 ≤ entry
     counted =
         let x = c.args in
         omega (
@@ -51,12 +54,12 @@ module _ (c : After-index-i) where
         turn x.s.now x.job.frame.shape x.job.nets (limit_at x.job.frame.limits) x.w.now x.table.now (length x.answer.now) lent j start
         c.loop-k.w c.loop-k.table x.answer.now c.loop-k.answer c.loop-k.vias c.loop-k.k (c.loop-k.invariant.5 lent j start) c.loop-k-test.true
 
-    its-row : RowTurn c.args.s.now c.args.job.frame.shape (4 * c.args.job.nets + 1 + c.loop-k.k) (limit_at c.args.job.frame.limits) c.loop-k.w c.loop-k.table (length c.loop-k.answer) (c.index-i.result - 1) its_turn
+    its-row : RowTurn c.args.s.now c.args.job.frame.shape (4 * c.args.job.nets + 1 + c.loop-k.k) (limit_at c.args.job.frame.limits) c.loop-k.w c.loop-k.table (length c.loop-k.answer) (entry - 1) its_turn
     its-row =
         let x = c.args in
         row-turn x.s.now x.job.frame.shape x.job.nets (limit_at x.job.frame.limits) x.w.now x.table.now (length x.answer.now) lent j start
         c.loop-k.w c.loop-k.table x.answer.now c.loop-k.answer c.loop-k.vias c.loop-k.k (c.loop-k.invariant.5 lent j start) c.loop-k-test.true
-        (c.index-i.result - 1) (4 * x.job.nets + 1 + c.loop-k.k) (ap (λ (q : ℕ). q - 1) told) refl c.loop-k.invariant.2
+        (entry - 1) (4 * x.job.nets + 1 + c.loop-k.k) (ap (λ (q : ℕ). q - 1) told) refl c.loop-k.invariant.2
 
 -- it has had its turn
 module _ (t : After-turn_of) where
@@ -68,8 +71,8 @@ module _ (t : After-turn_of) where
       subst (λ (q : List ℕ). Mid x.s.now x.job.frame.shape x.job.nets t.turn_of.new.w q x.answer.now t.turn_of.new.answer (t.loop-k.vias + t.turn_of.result) (t.loop-k.k + 1) lent j start.accepted) (sym t.turn_of.ensures.table_after)
       (mid-next x.s.now x.job.frame.shape x.job.nets (limit_at x.job.frame.limits) x.w.now x.table.now (length x.answer.now) lent j start
       t.loop-k.w t.loop-k.table x.answer.now t.loop-k.answer t.loop-k.vias t.loop-k.k (t.loop-k.invariant.5 lent j start) t.loop-k-test.true
-      (t.index-i.result - 1) (4 * x.job.nets + 1 + t.loop-k.k) (ap (λ (q : ℕ). q - 1) (told (goal.at.After-turn_of t).After-index-i)) refl t.turn_of.new.w t.turn_of.new.answer t.turn_of.result
-      (t.turn_of.ensures.row_done (its_turn (goal.at.After-turn_of t).After-index-i lent j start) (its-row (goal.at.After-turn_of t).After-index-i lent j start)))
+      (entry (goal.at.After-turn_of t).After-at - 1) (4 * x.job.nets + 1 + t.loop-k.k) (ap (λ (q : ℕ). q - 1) (told (goal.at.After-turn_of t).After-at)) refl t.turn_of.new.w t.turn_of.new.answer t.turn_of.result
+      (t.turn_of.ensures.row_done (its_turn (goal.at.After-turn_of t).After-at lent j start) (its-row (goal.at.After-turn_of t).After-at lent j start)))
 
 pub loop-k-init : goal.loop-k-init
 loop-k-init c =
@@ -84,21 +87,19 @@ loop-k-init c =
 
 pub overflow_sub-i : goal.overflow_sub-i
 overflow_sub-i c =
-    let o = c.requires.start_some in counted (goal.at.overflow_sub-i c).After-index-i o.lent o.job o.start
+    let o = c.requires.start_some in counted (goal.at.overflow_sub-i c).After-at o.lent o.job o.start
 
 pub turn_of-requires : goal.turn_of-requires
 turn_of-requires c =
     let o = c.requires.start_some in
     let h = c.loop-k-test.true in record {
-      charted = c.requires.charted;
-      shaped = c.requires.shaped;
       shape_in_bounds = (
         omega (arith, c.requires.shape_in_bounds.0, c.loop-k.invariant.0),
         omega (arith, h, c.requires.shape_in_bounds.1),
-        omega (arith, told (goal.at.turn_of-requires c).After-index-i, number (goal.at.turn_of-requires c).After-index-i o.lent o.job o.start),
+        omega (arith, told (goal.at.turn_of-requires c).After-at, number (goal.at.turn_of-requires c).After-at o.lent o.job o.start),
         omega (arith, c.requires.shape_in_bounds.2, c.loop-k.invariant.1),
       );
-      row_turn_some = record { turn = its_turn (goal.at.turn_of-requires c).After-index-i o.lent o.job o.start; at = its-row (goal.at.turn_of-requires c).After-index-i o.lent o.job o.start };
+      row_turn_some = record { turn = its_turn (goal.at.turn_of-requires c).After-at o.lent o.job o.start; at = its-row (goal.at.turn_of-requires c).After-at o.lent o.job o.start };
     }
 
 pub overflow_add-vias : goal.overflow_add-vias
@@ -112,7 +113,7 @@ loop-k-smaller c =
 pub loop-k-preserved : goal.loop-k-preserved
 loop-k-preserved c = (
   c.turn_of.ensures.w_len_unchanged.0 ∙ c.loop-k.invariant.0,
-  ap length c.turn_of.ensures.table_after ∙ length-set c.loop-k.table (vias_column (c.index-i.result - 1)) c.turn_of.result ∙ c.loop-k.invariant.1,
+  ap length c.turn_of.ensures.table_after ∙ length-set c.loop-k.table (vias_column (entry (goal.at.loop-k-preserved c).After-at - 1)) c.turn_of.result ∙ c.loop-k.invariant.1,
   c.turn_of.ensures.w_len_unchanged.1 ∙ c.loop-k.invariant.2,
   omega (arith, c.loop-k-test.true),
   omega (arith, c.loop-k.invariant.4, c.turn_of.type_inv),
@@ -124,6 +125,6 @@ returns c =
     let x = c.args in record {
       all_placed = λ lent j start.
           mid-end x.s.now x.job.frame.shape x.job.nets (limit_at x.job.frame.limits) x.w.now x.table.now (length x.answer.now) lent j start
-          c.loop-k.w c.loop-k.table x.answer.now c.loop-k.answer c.loop-k.vias c.loop-k.k (c.loop-k.invariant.5 lent j start) c.requires.shaped c.loop-k-test.false c.loop-k.invariant.2;
+          c.loop-k.w c.loop-k.table x.answer.now c.loop-k.answer c.loop-k.vias c.loop-k.k (c.loop-k.invariant.5 lent j start) c.args.job.frame.shape.shaped c.loop-k-test.false c.loop-k.invariant.2;
       w_len_unchanged = (c.loop-k.invariant.0, c.loop-k.invariant.1, c.loop-k.invariant.2);
     }

@@ -7,14 +7,11 @@ pub returns : goal.returns
 returns c =
     record {
       value = rw (
-        c.index.ensures.0,
-        c.pins_column.ensures.value,
-        c.index-2.ensures.0,
-        c.edges_column.ensures.value,
-        c.index-3.ensures.0,
-        c.first_column.ensures.value,
+        c.at.ensures.value,
+        c.at-2.ensures.value,
+        c.at-3.ensures.value,
         c.entries_in.ensures.0,
         c.dropped_in.ensures.0,
       );
-      first_bound = (c.index-3.ensures.1, omega (arith, c.entries_in.ensures.1));
+      first_bound = (omega (arith, c.type_inv.table c.at-3.result), omega (arith, c.entries_in.ensures.1));
     }

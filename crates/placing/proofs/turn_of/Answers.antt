@@ -20,17 +20,17 @@ module _ (b : After-row_of-row) where
       (length (take (b.row_of-row.result.first + b.row_of-row.result.count - b.row_of-row.result.first) (drop b.row_of-row.result.first b.args.answer.now))) u
   at_row u k =
       let x = b.args in
-      turn_at x.s.now x.turn.frame.shape x.turn.stamp (limit_at x.turn.frame.limits) x.w.now x.table.now x.answer.now x.turn.net u b.requires.shaped k b.row_of-row.result b.row_of-row.ensures.value
+      turn_at x.s.now x.turn.frame.shape x.turn.stamp (limit_at x.turn.frame.limits) x.w.now x.table.now x.answer.now x.turn.net u b.args.turn.frame.shape.shaped k b.row_of-row.result b.row_of-row.ensures.value
 
 pub slice_bounds-take_turn-end : goal.slice_bounds-take_turn-end
 slice_bounds-take_turn-end c =
     let x = c.args in
     let o = c.requires.row_turn_some in
-    lent-inside x.s.now x.turn.frame.shape x.turn.stamp (limit_at x.turn.frame.limits) x.w.now x.table.now x.answer.now x.turn.net o.turn c.requires.shaped o.at c.row_of-row.result c.row_of-row.ensures.value
+    lent-inside x.s.now x.turn.frame.shape x.turn.stamp (limit_at x.turn.frame.limits) x.w.now x.table.now x.answer.now x.turn.net o.turn c.args.turn.frame.shape.shaped o.at c.row_of-row.result c.row_of-row.ensures.value
 
 pub take_turn-vias-requires : goal.take_turn-vias-requires
 take_turn-vias-requires c =
-    let o = c.requires.row_turn_some in record { charted = c.requires.charted; shaped = c.requires.shaped; shape_in_bounds = (c.requires.shape_in_bounds.0, c.requires.shape_in_bounds.1); turn_some = record { turn = o.turn; at = at_row (goal.at.take_turn-vias-requires c).After-row_of-row o.turn o.at } }
+    let o = c.requires.row_turn_some in record { shape_in_bounds = (c.requires.shape_in_bounds.0, c.requires.shape_in_bounds.1); turn_some = record { turn = o.turn; at = at_row (goal.at.take_turn-vias-requires c).After-row_of-row o.turn o.at } }
 
 pub returns : goal.returns
 returns c =
@@ -39,12 +39,12 @@ returns c =
     let w = c.take_turn-vias.new.w in
     let out = c.take_turn-vias.new.out in record {
       row_done = λ u k.
-          row_done x.s.now x.turn.frame.shape x.turn.stamp (limit_at x.turn.frame.limits) x.w.now x.table.now x.answer.now x.turn.net u c.requires.shaped k c.row_of-row.result c.row_of-row.ensures.value w out c.take_turn-vias.result
+          row_done x.s.now x.turn.frame.shape x.turn.stamp (limit_at x.turn.frame.limits) x.w.now x.table.now x.answer.now x.turn.net u c.args.turn.frame.shape.shaped k c.row_of-row.result c.row_of-row.ensures.value w out c.take_turn-vias.result
           (c.take_turn-vias.ensures.turn_done u (at_row (goal.at.returns c).After-row_of-row u k));
-      table_after = ap (λ (k : ℕ). set x.table.now k c.take_turn-vias.result) c.vias_column.ensures.value;
+      table_after = ap (λ (k : ℕ). set x.table.now k c.take_turn-vias.result) c.at.ensures.value;
       w_len_unchanged = (
         c.take_turn-vias.ensures.w_len_unchanged,
-        answer_long x.s.now x.turn.frame.shape x.turn.stamp (limit_at x.turn.frame.limits) x.w.now x.table.now x.answer.now x.turn.net o.turn c.requires.shaped o.at c.row_of-row.result c.row_of-row.ensures.value w out c.take_turn-vias.result
+        answer_long x.s.now x.turn.frame.shape x.turn.stamp (limit_at x.turn.frame.limits) x.w.now x.table.now x.answer.now x.turn.net o.turn c.args.turn.frame.shape.shaped o.at c.row_of-row.result c.row_of-row.ensures.value w out c.take_turn-vias.result
             (c.take_turn-vias.ensures.turn_done o.turn (at_row (goal.at.returns c).After-row_of-row o.turn o.at)),
       );
     }

@@ -33,13 +33,12 @@ module _ (t : After-close_layers) where
 pub overflows-flat-requires : goal.overflows-flat-requires
 overflows-flat-requires c =
     let x = c.args in
-    let o = c.requires in record { shaped = o.turned.given.shaped; g_in_bounds = tiles-room x.s.now x.h x.w.now x.table.now (length x.answer.now) o.lent o.job o.turned; by_index = few-demands x.s.now x.h x.w.now x.table.now (length x.answer.now) o.lent o.job o.turned }
+    let o = c.requires in record { g_in_bounds = tiles-room x.s.now x.h x.w.now x.table.now (length x.answer.now) o.lent o.job o.turned; by_index = few-demands x.s.now x.h x.w.now x.table.now (length x.answer.now) o.lent o.job o.turned }
 
 pub limits_of-limits-requires : goal.limits_of-limits-requires
 limits_of-limits-requires c =
     let x = c.args in
     let o = c.requires in record {
-      shaped = o.turned.given.shaped;
       g_in_bounds = (
         flat-room-still x.s.now x.h x.w.now x.table.now (length x.answer.now) o.lent o.job o.turned (w₁ (goal.at.limits_of-limits-requires c).After-overflows-flat) c.overflows-flat.result c.overflows-flat.ensures.overflows c.overflows-flat.ensures.outside,
         few-most x.s.now x.h x.w.now x.table.now (length x.answer.now) o.lent o.job o.turned (w₁ (goal.at.limits_of-limits-requires c).After-overflows-flat) c.overflows-flat.result c.overflows-flat.ensures.overflows c.overflows-flat.ensures.outside,
@@ -50,14 +49,12 @@ limits_of-limits-requires c =
 pub close_layers-requires : goal.close_layers-requires
 close_layers-requires c =
     let x = c.args in
-    let o = c.requires in record { shaped = o.turned.given.shaped; g_in_bounds = omega (arith, c.overflows-flat.ensures.outside.long, o.turned.given.room) }
+    let o = c.requires in record { g_in_bounds = omega (arith, c.overflows-flat.ensures.outside.long, o.turned.given.room) }
 
 pub place_all-vias-requires : goal.place_all-vias-requires
 place_all-vias-requires c =
     let x = c.args in
     let o = c.requires in record {
-      charted = c.fill_chart.ensures;
-      shaped = o.turned.given.shaped;
       shape_in_bounds = (
         all_room x.s.now x.h x.w.now x.table.now (length x.answer.now) o.lent o.job o.turned (w₁ (goal.at.place_all-vias-requires c).After-overflows-flat) c.overflows-flat.result c.overflows-flat.ensures.overflows c.overflows-flat.ensures.outside (w₂ (goal.at.place_all-vias-requires c).After-close_layers) c.close_layers.ensures,
         few-nets x.s.now x.h x.w.now x.table.now (length x.answer.now) o.lent o.job o.turned,

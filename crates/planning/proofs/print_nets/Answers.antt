@@ -39,7 +39,7 @@ pub ldof_of-last-requires : goal.ldof_of-last-requires
 ldof_of-last-requires c =
     let x = c.args in
     let o = c.requires in
-    let at = o.turned in record { shaped = at.given.shaped; g_in_bounds = (omega (arith, at.given.room), at.given.unmarked); asked_some = directives-some x.s.now x.h x.w.now x.table.now (length x.answer.now) o.lent o.job at }
+    let at = o.turned in record { g_in_bounds = (omega (arith, at.given.room), at.given.unmarked); asked_some = directives-some x.s.now x.h x.w.now x.table.now (length x.answer.now) o.lent o.job at }
 
 pub place_nets-t-requires : goal.place_nets-t-requires
 place_nets-t-requires c =

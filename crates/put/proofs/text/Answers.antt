@@ -1,20 +1,21 @@
--- `text` meets its contract. The loop's invariant: what is left of the text, written from here, gives the whole.
+-- `text` meets its contract: the part that is lent comes back as the text.
 -- Assumes nothing.
-use mathlib.Core.Path.{refl}
+use mathlib.Core.List.{List, ◌++◌, append_assoc}
+use mathlib.Core.Path.{◌≡◌, refl, sym, ap₂, ◌∙◌}
+use Prim.Native.Nat.{ℕ, ◌+◌, ◌-◌, ◌≤◌}
 use native.Mathlib.Omega.{arith}
-use Rattle.put.proofs.Steps.{text-start, text-more, text-done}
+use borrow.Rule.Slice.PartMut.{put_mid, Post-is}
+use lib.ListN.{length, take, drop}
+use lib.Seq.{sets-eq}
+use Rattle.put.specs.Wrote.{Wrote}
 use Rattle.put.proofs.text.Goals as goal
 
-pub loop-i-init : goal.loop-i-init
-loop-i-init c =
-    let a = c.args in (omega arith, refl, text-start a.at a.x.now a.b.now)
-
-pub loop-i-preserved : goal.loop-i-preserved
-loop-i-preserved c =
-    let a = c.args in
-    (omega arith, refl, text-more a.at a.x.now a.b.now c.loop-i.i c.loop-i.b (omega arith) c.loop-i.invariant.2)
+put_back : (a : ℕ) (x w p : List ℕ) → a + length x ≤ length w → p ≡ x → Wrote a x w (put_mid a (a + length x - a) w p) (a + length x)
+put_back a x w p room is = record {
+  buffer = ap₂ (λ (q rest : List ℕ). take a w ++ (q ++ rest)) is (Post-is a (a + length x) w (omega arith)) ∙ sym (append_assoc (take a w) x (drop (a + length x) w)) ∙ sym (sets-eq x w a room);
+  next = refl;
+}
 
 pub returns : goal.returns
 returns c =
-    let a = c.args in
-    text-done a.at a.x.now a.b.now c.loop-i.i c.loop-i.b (omega arith) c.loop-i.invariant.2
+    put_back c.args.at c.args.x.now c.args.b.now c.copy_from_slice.new.self c.requires c.copy_from_slice.ensures.after

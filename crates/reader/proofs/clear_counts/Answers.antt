@@ -6,7 +6,7 @@ use Prim.Native.Nat.{ℕ}
 use native.Mathlib.Omega.{arith}
 use Rattle.layout.specs.Areas.{loads_at, flat_at, tiles_at, chosen_at}
 use Rattle.layout.specs.Fill.{PartCleared}
-use Rattle.layout.specs.declared.Shape.{Shape}
+use Rattle.layout.specs.declared.shape.Shape.{Shape}
 use Rattle.nets.specs.Nets.{CountsCleared}
 use Rattle.reader.proofs.clear_counts.Goals as goal
 

@@ -7,14 +7,14 @@ use Rattle.text.proofs.Digits.{digits_more, digits-stop, digits-end}
 use native.Mathlib.Omega.{arith}
 use Rattle.text.proofs.past_digits.Goals as goal
 
-pub returns-then-not-is_digit : goal.returns-then-not-is_digit
-returns-then-not-is_digit c =
-    omega (arith, ap length (digits-stop c.args.s.now c.loop-i.i c.loop-i-test.true (sym c.is_digit.ensures ∙ c.if-not-is_digit.true)))
-
 pub loop-i-preserved : goal.loop-i-preserved
 loop-i-preserved c =
-    omega (arith, ap length (digits_more c.args.s.now c.loop-i.i c.loop-i-test.true (sym c.is_digit.ensures ∙ c.if-not-is_digit.false)))
+    omega (arith, ap length (digits_more c.args.s.now c.loop-i.i c.loop-i-test.true (sym c.is_ascii_digit.ensures.value ∙ c.if-is_ascii_digit.true)))
 
-pub returns : goal.returns
-returns c =
+pub returns-else-is_ascii_digit : goal.returns-else-is_ascii_digit
+returns-else-is_ascii_digit c =
+    omega (arith, ap length (digits-stop c.args.s.now c.loop-i.i c.loop-i-test.true (sym c.is_ascii_digit.ensures.value ∙ c.if-is_ascii_digit.false)))
+
+pub returns-after-loop-i : goal.returns-after-loop-i
+returns-after-loop-i c =
     omega (arith, ap length (digits-end c.args.s.now c.loop-i.i c.loop-i-test.false))

@@ -1,30 +1,17 @@
 -- `short` meets its contract.
 -- Assumes nothing.
-use mathlib.Core.Bool.{true}
-use mathlib.Core.Path.{◌≡◌, sym, ◌∙◌}
-use Prim.Native.Nat.{◌+◌}
-use lib.ListN.{get_or}
-use Rattle.model.specs.Text.{is_digit}
-use Rattle.text.proofs.Spelt.{digit-least, short-one, short-two}
+use mathlib.Core.Path.{sym, ◌∙◌}
+use Rattle.text.proofs.Spelt.{short-one, short-two}
 use Rattle.text.proofs.short.Goals as goal
-use Rattle.text.proofs.short.Goals.{Else-not-is_digit-2}
-
--- both are digits
-first : (c : Else-not-is_digit-2) → is_digit (get_or c.args.s.now c.args.at 0) ≡ true
-first c = sym c.is_digit.ensures ∙ c.if-not-is_digit.false
-
-second : (c : Else-not-is_digit-2) → is_digit (get_or c.args.s.now (c.args.at + 1) 0) ≡ true
-second c = sym c.is_digit-2.ensures ∙ c.if-not-is_digit-2.false
 
 pub returns-then-b-end : goal.returns-then-b-end
 returns-then-b-end c =
-    short-one c.args.s.now c.args.at c.args.end c.requires.1 c.requires.0 (sym c.is_digit.ensures ∙ c.if-not-is_digit.false)
-    c.digit_value.result c.digit_value.ensures.value c.if-b-end.true
-
-pub two_digits-v-requires : goal.two_digits-v-requires
-two_digits-v-requires c =
-    (digit-least _ (first (goal.at.two_digits-v-requires c).Else-not-is_digit-2), digit-least _ (second (goal.at.two_digits-v-requires c).Else-not-is_digit-2))
+    let a = c.args in
+    short-one a.s.now a.at a.end c.requires.1 c.requires.0 (sym c.is_ascii_digit.ensures.value ∙ c.if-not-is_ascii_digit.false)
+    c.digit_value-value.result c.digit_value-value.ensures.value c.if-b-end.true
 
 pub returns : goal.returns
 returns c =
-    short-two c.args.s.now c.args.at c.args.end c.requires.1 c.requires.0 (first (goal.at.returns c).Else-not-is_digit-2) c.two_digits-v.result c.two_digits-v.ensures.0 c.if-a-eq48.false (second (goal.at.returns c).Else-not-is_digit-2) c.if-c-end.false
+    let a = c.args in
+    short-two a.s.now a.at a.end c.requires.1 c.requires.0 (sym c.is_ascii_digit.ensures.value ∙ c.if-not-is_ascii_digit.false)
+    c.two_digits-value.result c.two_digits-value.ensures.0 c.if-a-eq48.false (sym c.is_ascii_digit-else-s-at.ensures.value ∙ c.if-not-is_ascii_digit-2.false) c.if-s-at.false

@@ -5,6 +5,7 @@ use mathlib.Core.Bool.{Bool, cond}
 use Prim.Native.Nat.{ℕ, ◌+◌, ◌≤◌, ◌<◌}
 use native.Mathlib.Omega.{arith}
 use lib.ListN.{length}
+use Rattle.layout.specs.Dirs.{heading_number}
 use Rattle.layout.specs.Fill.{filled_none, filled_next}
 use Rattle.net.specs.SoFar.{closed_load}
 use Rattle.tracks.specs.Shut.{row_at, shut_from, shut_row}
@@ -36,7 +37,7 @@ bounds-w-at c =
 
 pub runs-requires : goal.runs-requires
 runs-requires c =
-    omega (arith, c.loop-l-test.true, c.requires.shaped.k_most)
+    omega (arith, c.loop-l-test.true, c.args.g.shaped.k_most)
 
 pub overflow_add-w : goal.overflow_add-w
 overflow_add-w c =
@@ -52,7 +53,7 @@ loop-l-preserved c =
     let here : c.loop-l.l < a.g.k = c.loop-l-test.true in
     let kept = c.loop-l.invariant.1.outside.high (at (goal.at.loop-l-preserved c).At-loop-l + c.loop-l.l) (omega arith) in (
       omega arith,
-      filled_next (at (goal.at.loop-l-preserved c).At-loop-l) c.loop-l.l (shut_from a.g.k a.g.dirs a.way a.w.now (at (goal.at.loop-l-preserved c).At-loop-l)) a.w.now c.loop-l.w c.shut.result c.loop-l.invariant.1 (omega (arith, room (goal.at.loop-l-preserved c).At-loop-l))
+      filled_next (at (goal.at.loop-l-preserved c).At-loop-l) c.loop-l.l (shut_from a.g.k a.g.dirs (heading_number a.heading) a.w.now (at (goal.at.loop-l-preserved c).At-loop-l)) a.w.now c.loop-l.w c.shut.result c.loop-l.invariant.1 (omega (arith, room (goal.at.loop-l-preserved c).At-loop-l))
           (c.shut.ensures ∙ ap₂ (λ (b : Bool) (n : ℕ). cond b n closed_load) (c.runs.ensures a.g.k here) kept),
     )
 
@@ -63,4 +64,4 @@ shape_of-w c =
 pub returns : goal.returns
 returns c =
     let a = c.args in
-    shut_row a.g a.way a.w.now c.loop-l.w a.edge (at (goal.at.returns c).At-loop-l) c.loop-l.l (at-is (goal.at.returns c).At-loop-l) (omega (arith, c.loop-l.invariant.0, c.loop-l-test.false)) c.loop-l.invariant.1
+    shut_row a.g (heading_number a.heading) a.w.now c.loop-l.w a.edge (at (goal.at.returns c).At-loop-l) c.loop-l.l (at-is (goal.at.returns c).At-loop-l) (omega (arith, c.loop-l.invariant.0, c.loop-l-test.false)) c.loop-l.invariant.1

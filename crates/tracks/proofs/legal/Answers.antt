@@ -26,7 +26,7 @@ module _ (c : After-room_of-room) where
       × ((i : ℕ) → i < n → get_or c.args.w.now (p + i) 0 + c.room_of-room.result < 2 ^ 32)
   asked j n p q p-is q-is h =
       let x = c.args in (
-        (omega (arith, c.edge_at-caps.ensures.1, c.requires.edge_lt_e), omega (arith, c.edge_at-caps.ensures.1, c.loads_at.ensures, c.requires.edge_lt_e), omega (arith, c.requires.shaped.k_most)),
+        (omega (arith, c.edge_at-caps.ensures.1, c.requires.edge_lt_e), omega (arith, c.edge_at-caps.ensures.1, c.loads_at.ensures, c.requires.edge_lt_e), omega (arith, c.args.g.shaped.k_most)),
         λ i b.
             let t : caps + (j + i) ≡ p + i = omega arith in
             subst (λ (t : ℕ). get_or x.w.now t 0 + c.room_of-room.result < 2 ^ 32) t
@@ -39,7 +39,7 @@ module _ (c : After-room_of-room) where
   found r r-is =
       let x = c.args in
       mask_is x.g x.w.now x.edge x.limit caps c.loads_at.result c.demand_at.result c.edge_at-caps.ensures.0
-      c.loads_at.ensures.value c.demand_at.ensures.value c.room_of-room.result c.room_of-room.ensures c.requires.shaped.k_most r r-is
+      c.loads_at.ensures.value c.demand_at.ensures.value c.room_of-room.result c.room_of-room.ensures c.args.g.shaped.k_most r r-is
 
   few : (p q r : ℕ) → r ≡ bits_up (open_in c.args.w.now p q c.room_of-room.result) 0 4 → r < 256
   few p q r r-is = omega (arith, r-is, bits-few (open_in c.args.w.now p q c.room_of-room.result) 0 4 (omega arith))

@@ -66,7 +66,7 @@ overflow_cast-layer c =
 
 pub occupy-requires : goal.occupy-requires
 occupy-requires c =
-    let t = turn-takes c.args.g (a (goal.at.occupy-requires c).After-struct_known-1) (b (goal.at.occupy-requires c).After-struct_known-1) c.args.n c.args.w.now (a-room (goal.at.occupy-requires c).After-struct_known-1) (b-room (goal.at.occupy-requires c).After-struct_known-1) (a-high (goal.at.occupy-requires c).After-struct_known-1) (b-high (goal.at.occupy-requires c).After-struct_known-1) c.loop-i.w c.loop-i.i c.loop-i.invariant.1 (omega arith) in record { shaped = c.requires.shaped; edge_lt_e = (t.edge, t.low, t.high, omega (arith, c.loop-i.invariant.1.long, a-high (goal.at.occupy-requires c).After-struct_known-1, a-room (goal.at.occupy-requires c).After-struct_known-1)); free = t.free }
+    let t = turn-takes c.args.g (a (goal.at.occupy-requires c).After-struct_known-1) (b (goal.at.occupy-requires c).After-struct_known-1) c.args.n c.args.w.now (a-room (goal.at.occupy-requires c).After-struct_known-1) (b-room (goal.at.occupy-requires c).After-struct_known-1) (a-high (goal.at.occupy-requires c).After-struct_known-1) (b-high (goal.at.occupy-requires c).After-struct_known-1) c.loop-i.w c.loop-i.i c.loop-i.invariant.1 (omega arith) in record { edge_lt_e = (t.edge, t.low, t.high, omega (arith, c.loop-i.invariant.1.long, a-high (goal.at.occupy-requires c).After-struct_known-1, a-room (goal.at.occupy-requires c).After-struct_known-1)); free = t.free }
 
 pub loop-i-preserved : goal.loop-i-preserved
 loop-i-preserved c = (

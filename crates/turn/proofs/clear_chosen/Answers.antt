@@ -36,7 +36,7 @@ module _ (l : At-loop-i) (h : l.loop-i.i < l.args.n) where
       )
 
   edge-room : b (goal.at.At-loop-i l).After-chosen_at-chosen + get_or l.loop-i.w (a (goal.at.At-loop-i l).After-chosen_at-chosen + l.loop-i.i) 0 < length l.loop-i.w
-  edge-room = omega (arith, edge_in, l.requires.shaped.e_tiles, b-is (goal.at.At-loop-i l).After-chosen_at-chosen, l.requires.g_in_bounds.0, l.loop-i.invariant.1.outside.long)
+  edge-room = omega (arith, edge_in, l.args.g.shaped.e_tiles, b-is (goal.at.At-loop-i l).After-chosen_at-chosen, l.requires.g_in_bounds.0, l.loop-i.invariant.1.outside.long)
 
 pub loop-i-init : goal.loop-i-init
 loop-i-init c =
@@ -52,15 +52,15 @@ bounds-w-list c =
 
 pub overflow_cast-edge : goal.overflow_cast-edge
 overflow_cast-edge c =
-    omega (arith, edge_in (goal.at.overflow_cast-edge c).At-loop-i (omega arith), c.requires.shaped.e_most)
+    omega (arith, edge_in (goal.at.overflow_cast-edge c).At-loop-i (omega arith), c.args.g.shaped.e_most)
 
 pub overflow_add-w : goal.overflow_add-w
 overflow_add-w c =
-    omega (arith, edge_in (goal.at.overflow_add-w c).At-loop-i (omega arith), c.requires.shaped.e_most, c.chosen_at-chosen.ensures.upper_bound)
+    omega (arith, edge_in (goal.at.overflow_add-w c).At-loop-i (omega arith), c.args.g.shaped.e_most, c.chosen_at-chosen.ensures.upper_bound)
 
 pub offset_bounds-w-chosen : goal.offset_bounds-w-chosen
 offset_bounds-w-chosen c =
-    omega (arith, edge_in (goal.at.offset_bounds-w-chosen c).At-loop-i (omega arith), c.requires.shaped.e_most, c.chosen_at-chosen.ensures.upper_bound)
+    omega (arith, edge_in (goal.at.offset_bounds-w-chosen c).At-loop-i (omega arith), c.args.g.shaped.e_most, c.chosen_at-chosen.ensures.upper_bound)
 
 pub bounds-w-chosen : goal.bounds-w-chosen
 bounds-w-chosen c =
@@ -71,7 +71,7 @@ loop-i-preserved c =
     let x = c.args in (
       omega arith,
       clearing-next (a (goal.at.loop-i-preserved c).After-chosen_at-chosen) (b (goal.at.loop-i-preserved c).After-chosen_at-chosen) (a (goal.at.loop-i-preserved c).After-chosen_at-chosen - b (goal.at.loop-i-preserved c).After-chosen_at-chosen) x.w.now c.loop-i.w c.loop-i.i c.loop-i.invariant.1 (omega (arith, a-is (goal.at.loop-i-preserved c).After-chosen_at-chosen, b-is (goal.at.loop-i-preserved c).After-chosen_at-chosen))
-          (omega (arith, edge_in (goal.at.loop-i-preserved c).At-loop-i (omega arith), c.requires.shaped.e_tiles, a-is (goal.at.loop-i-preserved c).After-chosen_at-chosen, b-is (goal.at.loop-i-preserved c).After-chosen_at-chosen)) (omega (arith, a-is (goal.at.loop-i-preserved c).After-chosen_at-chosen, b-is (goal.at.loop-i-preserved c).After-chosen_at-chosen, c.requires.g_in_bounds.0, c.loop-i.invariant.1.outside.long)),
+          (omega (arith, edge_in (goal.at.loop-i-preserved c).At-loop-i (omega arith), c.args.g.shaped.e_tiles, a-is (goal.at.loop-i-preserved c).After-chosen_at-chosen, b-is (goal.at.loop-i-preserved c).After-chosen_at-chosen)) (omega (arith, a-is (goal.at.loop-i-preserved c).After-chosen_at-chosen, b-is (goal.at.loop-i-preserved c).After-chosen_at-chosen, c.requires.g_in_bounds.0, c.loop-i.invariant.1.outside.long)),
     )
 
 pub shape_of-w : goal.shape_of-w

@@ -7,7 +7,7 @@ use Rattle.turn.proofs.place.Goals as goal
 
 pub place_layers-requires : goal.place_layers-requires
 place_layers-requires c =
-    let x = c.args in record { charted = c.requires.charted; holds_net = lent-holds x.g x.n x.w.now c.requires.g_in_bounds c.requires.holds_net c.engine_at-from.result (c.engine_at-from.result + 12 * x.g.m) c.engine_at-from.ensures.value (omega (arith, c.engine_at-from.ensures.value)) }
+    let x = c.args in lent-holds x.g x.n x.w.now c.requires.g_in_bounds c.requires.holds_net c.engine_at-from.result (c.engine_at-from.result + 12 * x.g.m) c.engine_at-from.ensures.value (omega (arith, c.engine_at-from.ensures.value))
 
 pub returns : goal.returns
 returns c =

@@ -33,7 +33,7 @@ module _ (l : At-loop-i) (h : l.loop-i.i < length l.args.out.now) where
       omega (arith, ap (λ (x : ℕ). get_or l.args.w.now (x + l.loop-i.i) 0) (a-is (goal.at.At-loop-i l).After-chosen_at-chosen), l.requires.can_answer.known l.loop-i.i h)
 
   layer-in : b (goal.at.At-loop-i l).After-chosen_at-chosen + get_or l.args.w.now (a (goal.at.At-loop-i l).After-chosen_at-chosen + l.loop-i.i) 0 < length l.args.w.now
-  layer-in = omega (arith, edge_in, l.requires.shaped.e_tiles, b-is (goal.at.At-loop-i l).After-chosen_at-chosen, l.requires.g_in_bounds.0)
+  layer-in = omega (arith, edge_in, l.args.g.shaped.e_tiles, b-is (goal.at.At-loop-i l).After-chosen_at-chosen, l.requires.g_in_bounds.0)
 
   layer-byte : get_or l.args.w.now (b (goal.at.At-loop-i l).After-chosen_at-chosen + get_or l.args.w.now (a (goal.at.At-loop-i l).After-chosen_at-chosen + l.loop-i.i) 0) 0 < 256
   layer-byte =
@@ -57,15 +57,15 @@ bounds-w-list c =
 
 pub overflow_cast-edge : goal.overflow_cast-edge
 overflow_cast-edge c =
-    omega (arith, edge_in (goal.at.overflow_cast-edge c).At-loop-i (omega arith), c.requires.shaped.e_most)
+    omega (arith, edge_in (goal.at.overflow_cast-edge c).At-loop-i (omega arith), c.args.g.shaped.e_most)
 
 pub overflow_add-out : goal.overflow_add-out
 overflow_add-out c =
-    omega (arith, edge_in (goal.at.overflow_add-out c).At-loop-i (omega arith), c.requires.shaped.e_most, c.chosen_at-chosen.ensures.upper_bound)
+    omega (arith, edge_in (goal.at.overflow_add-out c).At-loop-i (omega arith), c.args.g.shaped.e_most, c.chosen_at-chosen.ensures.upper_bound)
 
 pub offset_bounds-w-chosen : goal.offset_bounds-w-chosen
 offset_bounds-w-chosen c =
-    omega (arith, edge_in (goal.at.offset_bounds-w-chosen c).At-loop-i (omega arith), c.requires.shaped.e_most, c.chosen_at-chosen.ensures.upper_bound)
+    omega (arith, edge_in (goal.at.offset_bounds-w-chosen c).At-loop-i (omega arith), c.args.g.shaped.e_most, c.chosen_at-chosen.ensures.upper_bound)
 
 pub bounds-w-chosen : goal.bounds-w-chosen
 bounds-w-chosen c =

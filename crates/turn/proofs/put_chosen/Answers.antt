@@ -35,11 +35,11 @@ module _ (l : At-loop-i) (h : l.loop-i.i < l.args.n) where
   edge_in : get_or l.loop-i.w (a (goal.at.At-loop-i l).After-chosen_at-chosen + l.loop-i.i) 0 < l.args.g.e
   edge_in =
       let x = l.args in
-      put-known x.g l.requires.shaped (a (goal.at.At-loop-i l).After-chosen_at-chosen) (b (goal.at.At-loop-i l).After-chosen_at-chosen) l.chosen_at-chosen.result x.n x.w.now (a-is (goal.at.At-loop-i l).After-chosen_at-chosen) (b-is (goal.at.At-loop-i l).After-chosen_at-chosen) l.chosen_at-chosen.ensures.value l.requires.g_in_bounds.2 l.loop-i.w l.loop-i.i l.loop-i.invariant.1
+      put-known x.g l.args.g.shaped (a (goal.at.At-loop-i l).After-chosen_at-chosen) (b (goal.at.At-loop-i l).After-chosen_at-chosen) l.chosen_at-chosen.result x.n x.w.now (a-is (goal.at.At-loop-i l).After-chosen_at-chosen) (b-is (goal.at.At-loop-i l).After-chosen_at-chosen) l.chosen_at-chosen.ensures.value l.requires.g_in_bounds.2 l.loop-i.w l.loop-i.i l.loop-i.invariant.1
       l.loop-i.invariant.0 h
 
   layer-room : l.chosen_at-chosen.result + get_or l.loop-i.w (a (goal.at.At-loop-i l).After-chosen_at-chosen + l.loop-i.i) 0 < length l.loop-i.w
-  layer-room = omega (arith, edge_in, l.requires.shaped.e_tiles, l.chosen_at-chosen.ensures.value, l.requires.g_in_bounds.0, l.loop-i.invariant.1.long)
+  layer-room = omega (arith, edge_in, l.args.g.shaped.e_tiles, l.chosen_at-chosen.ensures.value, l.requires.g_in_bounds.0, l.loop-i.invariant.1.long)
 
 pub loop-i-init : goal.loop-i-init
 loop-i-init c =
@@ -67,11 +67,11 @@ bounds-w-layers c =
 
 pub overflow_add-w : goal.overflow_add-w
 overflow_add-w c =
-    omega (arith, edge_in (goal.at.overflow_add-w c).At-loop-i (omega arith), c.requires.shaped.e_most, c.chosen_at-chosen.ensures.upper_bound)
+    omega (arith, edge_in (goal.at.overflow_add-w c).At-loop-i (omega arith), c.args.g.shaped.e_most, c.chosen_at-chosen.ensures.upper_bound)
 
 pub offset_bounds-w-chosen : goal.offset_bounds-w-chosen
 offset_bounds-w-chosen c =
-    omega (arith, edge_in (goal.at.offset_bounds-w-chosen c).At-loop-i (omega arith), c.requires.shaped.e_most, c.chosen_at-chosen.ensures.upper_bound)
+    omega (arith, edge_in (goal.at.offset_bounds-w-chosen c).At-loop-i (omega arith), c.args.g.shaped.e_most, c.chosen_at-chosen.ensures.upper_bound)
 
 pub bounds-w-chosen : goal.bounds-w-chosen
 bounds-w-chosen c =
@@ -81,7 +81,7 @@ pub loop-i-preserved : goal.loop-i-preserved
 loop-i-preserved c =
     let x = c.args in (
       omega arith,
-      putting-next x.g c.requires.shaped (a (goal.at.loop-i-preserved c).After-chosen_at-chosen) (b (goal.at.loop-i-preserved c).After-chosen_at-chosen) c.chosen_at-chosen.result x.n x.w.now (a-is (goal.at.loop-i-preserved c).After-chosen_at-chosen) (b-is (goal.at.loop-i-preserved c).After-chosen_at-chosen) c.chosen_at-chosen.ensures.value c.requires.g_in_bounds.2 c.loop-i.w c.loop-i.i c.loop-i.invariant.1
+      putting-next x.g c.args.g.shaped (a (goal.at.loop-i-preserved c).After-chosen_at-chosen) (b (goal.at.loop-i-preserved c).After-chosen_at-chosen) c.chosen_at-chosen.result x.n x.w.now (a-is (goal.at.loop-i-preserved c).After-chosen_at-chosen) (b-is (goal.at.loop-i-preserved c).After-chosen_at-chosen) c.chosen_at-chosen.ensures.value c.requires.g_in_bounds.2 c.loop-i.w c.loop-i.i c.loop-i.invariant.1
           c.loop-i.invariant.0 (omega arith) (a-room (goal.at.loop-i-preserved c).After-chosen_at-chosen) (b-room (goal.at.loop-i-preserved c).After-chosen_at-chosen),
     )
 
@@ -92,5 +92,5 @@ shape_of-w c =
 pub returns : goal.returns
 returns c =
     let x = c.args in
-    putting-done x.g c.requires.shaped (a (goal.at.returns c).After-chosen_at-chosen) (b (goal.at.returns c).After-chosen_at-chosen) c.chosen_at-chosen.result x.n x.w.now (a-is (goal.at.returns c).After-chosen_at-chosen) (b-is (goal.at.returns c).After-chosen_at-chosen) c.chosen_at-chosen.ensures.value c.requires.g_in_bounds.2 c.loop-i.w c.loop-i.i c.loop-i.invariant.1
+    putting-done x.g c.args.g.shaped (a (goal.at.returns c).After-chosen_at-chosen) (b (goal.at.returns c).After-chosen_at-chosen) c.chosen_at-chosen.result x.n x.w.now (a-is (goal.at.returns c).After-chosen_at-chosen) (b-is (goal.at.returns c).After-chosen_at-chosen) c.chosen_at-chosen.ensures.value c.requires.g_in_bounds.2 c.loop-i.w c.loop-i.i c.loop-i.invariant.1
     (omega arith)

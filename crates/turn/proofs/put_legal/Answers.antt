@@ -52,7 +52,6 @@ pub legal-mask-requires : goal.legal-mask-requires
 legal-mask-requires c =
     let x = c.args in
     let h = c.loop-i.invariant in record {
-      shaped = c.requires.shaped;
       edge_lt_e = (
         omega (
           arith,

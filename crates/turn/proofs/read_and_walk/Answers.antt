@@ -22,26 +22,25 @@ module _ (c : After-walk) where
   walks u b =
       let x = c.args in
       c.walk.ensures u.job (turn_net u)
-      (net-walks x.s.now x.net.pins x.net.edges x.net.dropped x.g c.requires.shaped x.net.stamp x.w.now u b c.read_again-low.new.w c.read_again-low.result (again (goal.at.After-walk c).After-read_again-low u b))
+      (net-walks x.s.now x.net.pins x.net.edges x.net.dropped x.g c.args.g.shaped x.net.stamp x.w.now u b c.read_again-low.new.w c.read_again-low.result (again (goal.at.After-walk c).After-read_again-low u b))
 
   long : length c.walk.new.w ≡ length c.args.w.now
   long = let b = c.requires.before_some in (walks b.turn b.before).outside.long ∙ (again (goal.at.After-walk c).After-read_again-low b.turn b.before).long
 
 pub read_again-low-requires : goal.read_again-low-requires
 read_again-low-requires c =
-    record { shaped = c.requires.shaped; g_in_bounds = c.requires.g_in_bounds; before_some = c.requires.before_some }
+    record { g_in_bounds = c.requires.g_in_bounds; before_some = c.requires.before_some }
 
 pub walk-requires : goal.walk-requires
 walk-requires c =
     let x = c.args in
     let b = c.requires.before_some in
     let read = again (goal.at.walk-requires c).After-read_again-low b.turn b.before in record {
-      shaped = c.requires.shaped;
       g_in_bounds = omega (arith, c.requires.g_in_bounds.0, read.long);
       walk_ready = record {
         job = b.turn.job;
         net = turn_net b.turn;
-        walks = net-walks x.s.now x.net.pins x.net.edges x.net.dropped x.g c.requires.shaped x.net.stamp x.w.now b.turn b.before c.read_again-low.new.w c.read_again-low.result read;
+        walks = net-walks x.s.now x.net.pins x.net.edges x.net.dropped x.g c.args.g.shaped x.net.stamp x.w.now b.turn b.before c.read_again-low.new.w c.read_again-low.result read;
       };
       stamp_le_most_stamp = c.requires.g_in_bounds.1;
     }
@@ -54,7 +53,7 @@ pub returns : goal.returns
 returns c =
     let x = c.args in record {
       net_walked = λ u b.
-          net-walked x.s.now x.net.pins x.net.edges x.net.dropped x.g c.requires.shaped x.net.stamp x.w.now u b c.read_again-low.new.w c.read_again-low.result (again (goal.at.returns c).After-read_again-low u b)
+          net-walked x.s.now x.net.pins x.net.edges x.net.dropped x.g c.args.g.shaped x.net.stamp x.w.now u b c.read_again-low.new.w c.read_again-low.result (again (goal.at.returns c).After-read_again-low u b)
           c.walk.new.w c.walk.result (walks (goal.at.returns c).After-walk u b);
       w_len_unchanged = long (goal.at.returns c).After-walk;
     }

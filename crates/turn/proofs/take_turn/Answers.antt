@@ -31,15 +31,15 @@ module _ (d : After-write_layers) where
 
 pub read_and_walk-n-requires : goal.read_and_walk-n-requires
 read_and_walk-n-requires c =
-    let s = c.requires.turn_some in record { shaped = c.requires.shaped; g_in_bounds = c.requires.shape_in_bounds; before_some = record { turn = s.turn; before = s.at.before } }
+    let s = c.requires.turn_some in record { g_in_bounds = c.requires.shape_in_bounds; before_some = record { turn = s.turn; before = s.at.before } }
 
 pub choose_layers-vias-requires : goal.choose_layers-vias-requires
 choose_layers-vias-requires c =
-    let s = c.requires.turn_some in record { charted = c.requires.charted; shaped = c.requires.shaped; g_in_bounds = omega (arith, c.requires.shape_in_bounds.0, c.read_and_walk-n.ensures.w_len_unchanged); walked_some = record { turn = s.turn; stamp = c.args.net.stamp; walked = walked (goal.at.choose_layers-vias-requires c).After-read_and_walk-n s.turn s.at; limit_is = s.at.limit_is } }
+    let s = c.requires.turn_some in record { g_in_bounds = omega (arith, c.requires.shape_in_bounds.0, c.read_and_walk-n.ensures.w_len_unchanged); walked_some = record { turn = s.turn; stamp = c.args.net.stamp; walked = walked (goal.at.choose_layers-vias-requires c).After-read_and_walk-n s.turn s.at; limit_is = s.at.limit_is } }
 
 pub write_layers-requires : goal.write_layers-requires
 write_layers-requires c =
-    let s = c.requires.turn_some in record { shaped = c.requires.shaped; g_in_bounds = omega (arith, c.requires.shape_in_bounds.0, long (goal.at.write_layers-requires c).After-choose_layers-vias); chosen_some = record { turn = s.turn; stamp = c.args.net.stamp; chosen = (chosen (goal.at.write_layers-requires c).After-choose_layers-vias s.turn s.at).0; count = s.at.count } }
+    let s = c.requires.turn_some in record { g_in_bounds = omega (arith, c.requires.shape_in_bounds.0, long (goal.at.write_layers-requires c).After-choose_layers-vias); chosen_some = record { turn = s.turn; stamp = c.args.net.stamp; chosen = (chosen (goal.at.write_layers-requires c).After-choose_layers-vias s.turn s.at).0; count = s.at.count } }
 
 pub shape_of-w : goal.shape_of-w
 shape_of-w c =

@@ -15,7 +15,7 @@ module _ (p : After-put_chosen) where
   still-room =
       let x = p.args in
       let s = p.requires.chosen_some in
-      omega (arith, p.requires.g_in_bounds, (put-kept x.g p.requires.shaped x.n x.w.now p.requires.g_in_bounds s.stamp s.turn s.chosen p.put_chosen.new.w p.put_chosen.ensures).long)
+      omega (arith, p.requires.g_in_bounds, (put-kept x.g p.args.g.shaped x.n x.w.now p.requires.g_in_bounds s.stamp s.turn s.chosen p.put_chosen.new.w p.put_chosen.ensures).long)
 
 -- one more net is on its layers
 module _ (c : After-occupy_all) where
@@ -23,17 +23,16 @@ module _ (c : After-occupy_all) where
   long =
       let x = c.args in
       let s = c.requires.chosen_some in
-      still-long x.g c.requires.shaped x.n x.w.now c.requires.g_in_bounds s.stamp s.turn s.chosen c.put_chosen.new.w c.put_chosen.ensures c.occupy_all.new.w c.occupy_all.ensures
+      still-long x.g c.args.g.shaped x.n x.w.now c.requires.g_in_bounds s.stamp s.turn s.chosen c.put_chosen.new.w c.put_chosen.ensures c.occupy_all.new.w c.occupy_all.ensures
 
 pub put_chosen-requires : goal.put_chosen-requires
 put_chosen-requires c =
     let x = c.args in
     let s = c.requires.chosen_some in record {
-      shaped = c.requires.shaped;
       g_in_bounds = (
         c.requires.g_in_bounds,
-        tiles-fit x.g c.requires.shaped x.n x.w.now c.requires.g_in_bounds s.stamp s.turn s.chosen,
-        known x.g c.requires.shaped x.n x.w.now c.requires.g_in_bounds s.stamp s.turn s.chosen,
+        tiles-fit x.g c.args.g.shaped x.n x.w.now c.requires.g_in_bounds s.stamp s.turn s.chosen,
+        known x.g c.args.g.shaped x.n x.w.now c.requires.g_in_bounds s.stamp s.turn s.chosen,
       );
     }
 
@@ -41,18 +40,17 @@ pub put_answer-requires : goal.put_answer-requires
 put_answer-requires c =
     let x = c.args in
     let s = c.requires.chosen_some in record {
-      shaped = c.requires.shaped;
       g_in_bounds = (
         still-room (goal.at.put_answer-requires c).After-put_chosen,
-        answer_fits x.g c.requires.shaped x.n x.w.now c.requires.g_in_bounds s.stamp s.turn s.chosen c.put_chosen.new.w c.put_chosen.ensures (length x.out.now) s.count,
+        answer_fits x.g c.args.g.shaped x.n x.w.now c.requires.g_in_bounds s.stamp s.turn s.chosen c.put_chosen.new.w c.put_chosen.ensures (length x.out.now) s.count,
       );
-      can_answer = can-answer x.g c.requires.shaped x.n x.w.now c.requires.g_in_bounds s.stamp s.turn s.chosen c.put_chosen.new.w c.put_chosen.ensures (length x.out.now) s.count;
+      can_answer = can-answer x.g c.args.g.shaped x.n x.w.now c.requires.g_in_bounds s.stamp s.turn s.chosen c.put_chosen.new.w c.put_chosen.ensures (length x.out.now) s.count;
     }
 
 pub occupy_all-requires : goal.occupy_all-requires
 occupy_all-requires c =
     let x = c.args in
-    let s = c.requires.chosen_some in record { shaped = c.requires.shaped; n_le_m = (tiles-fit x.g c.requires.shaped x.n x.w.now c.requires.g_in_bounds s.stamp s.turn s.chosen, still-room (goal.at.occupy_all-requires c).After-put_chosen); can_take = takes x.g c.requires.shaped x.n x.w.now c.requires.g_in_bounds s.stamp s.turn s.chosen c.put_chosen.new.w c.put_chosen.ensures }
+    let s = c.requires.chosen_some in record { n_le_m = (tiles-fit x.g c.args.g.shaped x.n x.w.now c.requires.g_in_bounds s.stamp s.turn s.chosen, still-room (goal.at.occupy_all-requires c).After-put_chosen); can_take = takes x.g c.args.g.shaped x.n x.w.now c.requires.g_in_bounds s.stamp s.turn s.chosen c.put_chosen.new.w c.put_chosen.ensures }
 
 pub shape_of-w : goal.shape_of-w
 shape_of-w c =
@@ -63,7 +61,7 @@ returns c =
     let x = c.args in
     let s = c.requires.chosen_some in record {
       net_placed = λ u stamp h count.
-          net-placed x.g c.requires.shaped x.n x.w.now c.requires.g_in_bounds stamp u h c.put_chosen.new.w c.put_chosen.ensures (length x.out.now)
+          net-placed x.g c.args.g.shaped x.n x.w.now c.requires.g_in_bounds stamp u h c.put_chosen.new.w c.put_chosen.ensures (length x.out.now)
           count c.occupy_all.new.w c.put_answer.new.out
           c.occupy_all.ensures c.put_answer.ensures;
       w_len_unchanged = long (goal.at.returns c).After-occupy_all;

@@ -15,7 +15,7 @@ join-requires c =
     let x = c.args in
     let long = part-long (links_at x.g) x.g.t x.w.now (omega (arith, c.requires.g_in_bounds.0)) in
     rw (lent-part (links_at x.g) x.g.t x.w.now c.links_at-from.result c.chosen_at-to.result c.links_at-from.ensures.value c.chosen_at-to.ensures.value)
-    (c.requires.g_in_bounds.3, omega (arith, long, c.requires.shaped.t_most), omega (arith, long, c.requires.g_in_bounds.1), omega (arith, long, c.requires.g_in_bounds.2), c.requires.g_in_bounds.4)
+    (c.requires.g_in_bounds.3, omega (arith, long, c.args.g.shaped.t_most), omega (arith, long, c.requires.g_in_bounds.1), omega (arith, long, c.requires.g_in_bounds.2), c.requires.g_in_bounds.4)
 
 pub returns : goal.returns
 returns c =

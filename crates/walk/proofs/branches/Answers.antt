@@ -12,7 +12,7 @@ loop-d-init c =
 pub step-end-requires : goal.step-end-requires
 step-end-requires c =
     let x = c.args in
-    let h = c.loop-d-test.true in record { shaped = c.requires.shaped; g_in_bounds = omega (arith, c.requires.g_in_bounds, c.loop-d.invariant.1); d_bound = h; way_room = c.requires.by_index c.loop-d.d h; d_bound_2 = omega (arith, c.requires.four_ways_bound, left-room x.g x.x.tile x.x.marks x.x.above c.loop-d.d c.loop-d.end c.loop-d.w _ _ h c.loop-d.invariant.2) }
+    let h = c.loop-d-test.true in record { g_in_bounds = omega (arith, c.requires.g_in_bounds, c.loop-d.invariant.1); d_bound = h; way_room = c.requires.by_index c.loop-d.d h; d_bound_2 = omega (arith, c.requires.four_ways_bound, left-room x.g x.x.tile x.x.marks x.x.above c.loop-d.d c.loop-d.end c.loop-d.w _ _ h c.loop-d.invariant.2) }
 
 pub loop-d-preserved : goal.loop-d-preserved
 loop-d-preserved c =

@@ -25,7 +25,7 @@ module _ (e : Else-y-x) where
   way-is = e.way_out-y.ensures
 
   small : (e.way_out-y.result.tile < 8192) × (e.way_out-y.result.edge < 16384)
-  small = rw way-is (way-small e.args.g e.requires.shaped e.args.x.tile e.args.d (room (goal.at.Else-y-x e).Else-not-bit).tile)
+  small = rw way-is (way-small e.args.g e.args.g.shaped e.args.x.tile e.args.d (room (goal.at.Else-y-x e).Else-not-bit).tile)
 
 pub returns-then-not-bit : goal.returns-then-not-bit
 returns-then-not-bit c =
@@ -33,7 +33,7 @@ returns-then-not-bit c =
 
 pub way_out-y-requires : goal.way_out-y-requires
 way_out-y-requires c =
-    record { shaped = c.requires.shaped; way_room = room (goal.at.way_out-y-requires c).Else-not-bit }
+    record { way_room = room (goal.at.way_out-y-requires c).Else-not-bit }
 
 pub returns-then-y-x : goal.returns-then-y-x
 returns-then-y-x c =
@@ -49,7 +49,7 @@ overflow_cast-w-2 c =
 
 pub bounds-w-above_at : goal.bounds-w-above_at
 bounds-w-above_at c =
-    omega (arith, c.requires.shaped, c.requires.g_in_bounds, c.above_at.ensures.value, c.above_at.ensures.upper_bound, length-set c.args.w.now (c.stops_at.result + c.args.n) c.way_out-y.result.tile)
+    omega (arith, c.args.g.shaped, c.requires.g_in_bounds, c.above_at.ensures.value, c.above_at.ensures.upper_bound, length-set c.args.w.now (c.stops_at.result + c.args.n) c.way_out-y.result.tile)
 
 pub returns : goal.returns
 returns c =

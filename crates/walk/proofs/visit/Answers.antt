@@ -52,15 +52,15 @@ pub branches-end-requires : goal.branches-end-requires
 branches-end-requires c =
     let r = visit-asked c.args.g c.args.stamp c.args.w.now c.args.i c.args.n
     c.stops_at.result c.above_at.result c.tiles_at.result c.latest_bits-m.result c.stops_at.ensures.value c.above_at.ensures.value c.tiles_at.ensures.value c.latest_bits-m.ensures.value
-    c.requires.by_index c.requires.i_bound in record { shaped = c.requires.shaped; g_in_bounds = c.requires.g_in_bounds; by_index = r.0; four_ways_bound = r.1 }
+    c.requires.by_index c.requires.i_bound in record { g_in_bounds = c.requires.g_in_bounds; by_index = r.0; four_ways_bound = r.1 }
 
 pub overflow_cast-w : goal.overflow_cast-w
 overflow_cast-w c =
-    omega (arith, (done (goal.at.overflow_cast-w c).After-branches-end _ _ refl refl).0, c.requires.shaped, c.requires.i_bound)
+    omega (arith, (done (goal.at.overflow_cast-w c).After-branches-end _ _ refl refl).0, c.args.g.shaped, c.requires.i_bound)
 
 pub bounds-w-engine_at-2 : goal.bounds-w-engine_at-2
 bounds-w-engine_at-2 c =
-    omega (arith, c.requires.shaped, c.requires.g_in_bounds, c.requires.i_lt_m, c.requires.by_index, c.requires.i_bound, c.requires.stamp_le_most_stamp, (goal.at.bounds-w-engine_at-2 c).After-w-1, c.engine_at-2.ensures.value, length-set c.branches-end.new.w (c.engine_at.result + c.args.i) c.branches-end.result)
+    omega (arith, c.args.g.shaped, c.requires.g_in_bounds, c.requires.i_lt_m, c.requires.by_index, c.requires.i_bound, c.requires.stamp_le_most_stamp, (goal.at.bounds-w-engine_at-2 c).After-w-1, c.engine_at-2.ensures.value, length-set c.branches-end.new.w (c.engine_at.result + c.args.i) c.branches-end.result)
 
 pub returns : goal.returns
 returns c =

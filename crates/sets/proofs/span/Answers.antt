@@ -1,9 +1,0 @@
--- `span` meets its contract: the chart has the vias of the set.
--- Assumes nothing.
-use native.Mathlib.Omega.{arith}
-use Rattle.sets.specs.Mask.{span-le-7}
-use Rattle.sets.proofs.span.Goals as goal
-
-pub returns : goal.returns
-returns c =
-    let e = c.requires.charted.at c.args.mask c.requires.mask_bound in record { value = e; upper_bound = omega (arith, e, span-le-7 c.args.mask c.requires.mask_bound) }
