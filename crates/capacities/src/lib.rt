@@ -42,7 +42,7 @@ fn put(w: &mut [u32], to: usize, v: usize, inside: bool) -> bool
 fn brief_until(s: &[u8]) -> usize
     ensures { result ≡ length s.now - 5 }
 {
-    if s.len() < 5 { 0 } else { s.len() - 5 }
+    s.len().saturating_sub(5)
 }
 
 // The number at `at`, a comma behind it, and the place after that, where six bytes are left: the common case, without a loop. None says
@@ -161,7 +161,7 @@ fn list(s: &[u8], c: Cursor, w: &mut [u32], to: Column) -> Result<Cursor, Refusa
     if 0 < to.count {
         return entries(s, c, w, to);
     }
-    if s.len() <= c.at || s[c.at] != 10 {
+    if s.len() <= c.at || s[c.at] != b'\n' {
         return Err(Refusal::Line(Fault::Form, c.line));
     }
     Ok(Cursor {

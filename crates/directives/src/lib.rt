@@ -66,7 +66,7 @@ fn count_line(s: &[u8], at: usize, w: &mut [u32], g: Shape, low: usize)
     ensures w_after { (n : Net) → EdgesAt s.now g.w g.h at n → w.new ≡ marked g low n.entries w.old }
     ensures w_len_unchanged { length w.new ≡ length w.old }
 {
-    if s[at] != 10 {
+    if s[at] != b'\n' {
         count_entries(s, at, w, g, low);
     }
 }

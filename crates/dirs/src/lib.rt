@@ -36,9 +36,9 @@ fn end_of(more: usize) -> u8
     ensures { result ≡ ender more }
 {
     if more == 0 {
-        return 10;
+        return b'\n';
     }
-    44
+    b','
 }
 
 // The k letters that stand from `from` on, with commas between and byte 10 behind the last: the ways of the layers, bit l - 1 for layer l, and the place

@@ -241,7 +241,7 @@ fn list(
     if s.len() <= at {
         return Err(Refusal::Line(Fault::Form, c.line));
     }
-    if s[at] == 10 {
+    if s[at] == b'\n' {
         let v = Seen {
             entries: 0,
             parts,

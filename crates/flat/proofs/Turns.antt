@@ -2,12 +2,12 @@
 -- Assumes nothing.
 use mathlib.Core.List.{List}
 use mathlib.Core.Path.{◌≡◌, ap, ap₂, ◌∙◌}
-use Prim.Native.Nat.{ℕ, ◌+◌, ◌*◌, ◌≤◌, ◌<◌, max}
+use Prim.Native.Nat.{ℕ, ◌+◌, ◌-◌, ◌*◌, ◌≤◌, ◌<◌, max}
 use native.Mathlib.Numerals.{add-one}
 use native.Mathlib.Omega.{arith}
-use lib.ListN.{get_or}
+use lib.ListN.{length, get_or, take, drop}
 use Rattle.layout.specs.Areas.{loads_at, demand_at, flat_at}
-use Rattle.layout.specs.Parts.{Outside}
+use Rattle.layout.specs.Parts.{Outside, part_at, part-long}
 use Rattle.layout.specs.declared.shape.Shape.{Shape}
 use Rattle.model.specs.Job.{Job, edge_count}
 use Rattle.model.specs.Lists.{up_from, sum, most}
@@ -31,6 +31,15 @@ most-next f n = let z : 0 + n ≡ n = omega arith in rw add-one (omega (arith, m
 
 pub sum_at_next : (a k : ℕ) (w : List ℕ) → sum_at a (k + 1) w ≡ sum_at a k w + get_or w (a + k) 0
 sum_at_next a k w = sum-next (λ l. get_or w (a + l) 0) k
+
+-- ---- a stretch of the working numbers
+
+module _ (a k : ℕ) (w : List ℕ) (h : a + k ≤ length w) where
+  pub stretch-long : length (take (a + k - a) (drop a w)) ≡ k
+  stretch-long = let e : a + k - a ≡ k = omega arith in rw (e, part-long a k w h)
+
+  pub stretch_at : (i : ℕ) → i < k → get_or (take (a + k - a) (drop a w)) i 0 ≡ get_or w (a + i) 0
+  stretch_at i l = let e : a + k - a ≡ k = omega arith in rw (e, part_at a k w i l)
 
 -- ---- what is written lies above what is read
 

@@ -29,8 +29,8 @@ fn sum_of(w: &[u32], at: usize, k: usize) -> u32
     ensures { result ≡ sum_at at k w.now }
 {
     let mut sum = 0u32;
-    for l in 0..k {
-        sum += w[at + l];
+    for &capacity in &w[at..at + k] {
+        sum += capacity;
     }
     sum
 }
@@ -92,8 +92,8 @@ fn most_of(w: &[u32], at: usize, n: usize) -> u32
     ensures { result ≡ most_at at n w.now }
 {
     let mut most = 0u32;
-    for i in 0..n {
-        most = most.max(w[at + i]);
+    for &over in &w[at..at + n] {
+        most = most.max(over);
     }
     most
 }

@@ -21,7 +21,7 @@ fn comma(b: u8) -> usize
     ensures value { result ≡ cond (ltb b 48) 1 0 }
     ensures upper_bound { result ≤ 1 }
 {
-    if b < 48 { 1 } else { 0 }
+    usize::from(b < b'0')
 }
 
 // The digit `first` before a comma, or with the digit b behind it.
@@ -52,7 +52,7 @@ fn coordinate_at(s: &[u8], at: usize) -> Numeral
 fn way(b: u8) -> usize
     ensures { result ≡ cond (eqb b 110) 1 0 }
 {
-    if b == b'n' { 1 } else { 0 }
+    usize::from(b == b'n')
 }
 
 // The edge that stands at `at`.

@@ -118,7 +118,7 @@ pub fn mark_edges(s: &[u8], at: usize, w: &mut [u32], g: Shape, stamp: u32, low:
     requires edges_there { EdgesThere s.now g at }
     ensures { (n : Net) → EdgesAt s.now g.w g.h at n → EdgesMarked g stamp low n.entries w.old w.new result }
 {
-    if s[at] == 10 {
+    if s[at] == b'\n' {
         return Again { low, entries: 0 };
     }
     mark_entries(s, at, w, g, stamp, low)

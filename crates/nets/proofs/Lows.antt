@@ -9,6 +9,7 @@ use native.Mathlib.Omega.{arith}
 use lib.ListN.{length, get_or, set, length-set}
 use lib.Seq.{get_or-set_same, get_or-set_other}
 use Rattle.std.specs.Prelude.{Some, None, Ok, Err, is_some, Option as Maybe, Result as Outcome}
+use Rattle.std.specs.Option.{unwrap_or}
 use Rattle.layout.specs.Shapes.{sizes_of}
 use Rattle.layout.specs.Table.{vias_column, table_size}
 use Rattle.layout.specs.declared.shape.Shape.{Shape}
@@ -51,7 +52,7 @@ module _ {A : Type 0} where
 
 module _ (s : List ℕ) (c : Cursor) (o : Maybe Cursor) (e : o ≡ opened_of s c key) (k : ℕ) where
   -- the key is not there: nothing is read
-  pub low-none : is_some o ≡ false → low_told s (Ok (0, c)) ≡ low_line k (place_of s c)
+  pub low-none : is_some o ≡ false → low_told s (Ok (None, c)) ≡ low_line k (place_of s c)
   unfolding low_line
   low-none t = sym (key-other s c key (sym e ∙ is-none o t) (λ l u. if_there u (ranged "low" 1 k) (place_of s c)))
 
@@ -73,15 +74,15 @@ module _ (s : List ℕ) (c : Cursor) (o : Maybe Cursor) (e : o ≡ opened_of s c
           gives_found (λ m. (1 ≤ m) × (m ≤ k)) (ranged "low" 1 k (place_of s c)) n (place_of s d) (ranged-is "low" 1 k (place_of s c) ∙ sym told ∙ ap (field_told s) h)
           (ranged-gives "low" 1 k (place_of s c))
 
-      pub low_value : low_told s (Ok (n, d)) ≡ low_line k (place_of s c)
+      pub low_value : low_told s (Ok (Some n, d)) ≡ low_line k (place_of s c)
       low_value =
           sym (low_is ∙ ap (λ (x : Outcome (ℕ × Cursor) Refusal). next (field_told s x) (λ m. give (some m))) h ∙ ap (λ (x : Option ℕ). found x (place_of s d)) (some-layer n low-range.0))
 
-      pub low-after : (size : ℕ) → After size (c.line + 1) d → low_holds size c.line (Ok (n, d))
+      pub low-after : (size : ℕ) → After size (c.line + 1) d → low_holds size c.line (Ok (Some n, d))
       low-after size a = record { place = a.place; lines = omega (arith, a.lines, one_line n low-range.0) }
 
 -- where the answer's case is known
-pub low-holds : (r : LowRead) (size line m : ℕ) (c : Cursor) → r ≡ Ok (m, c) → low_holds size line r → After size (line + option_lines (low_at m)) c
+pub low-holds : (r : LowRead) (size line : ℕ) (m : Maybe ℕ) (c : Cursor) → r ≡ Ok (m, c) → low_holds size line r → After size (line + option_lines (low_at (unwrap_or m 0))) c
 low-holds r size line m c e h = rw e at h
 
 -- ---- the lines behind it
@@ -99,19 +100,19 @@ module _ (s : List ℕ) (c : Cursor) (g : Shape) (i first : ℕ) (l : LowRead) (
   unfolding rest_in
   rest-refused f e = ap (λ (x : Result (Option ℕ)). next x (λ low. body_in (sizes_of g) low)) (sym told ∙ ap (low_told s) e)
 
-  rest-is : (m : ℕ) (d : Cursor) → l ≡ Ok (m, d) → rest_in (sizes_of g) (place_of s c) ≡ body_in (sizes_of g) (low_at m) (place_of s d)
+  rest-is : (m : Maybe ℕ) (d : Cursor) → l ≡ Ok (m, d) → rest_in (sizes_of g) (place_of s c) ≡ body_in (sizes_of g) (low_at (unwrap_or m 0)) (place_of s d)
   unfolding rest_in
   rest-is m d e = ap (λ (x : Result (Option ℕ)). next x (λ low. body_in (sizes_of g) low)) (sym told ∙ ap (low_told s) e)
 
-  pub rest-goes-on : (m : ℕ) (d : Cursor) → l ≡ Ok (m, d) → d.line ≡ c.line + option_lines (low_at m) → (w w' table table₁ table' : List ℕ) (r : NetRead) → i < most_nets → table_size ≤ length table
-      → table₁ ≡ set table (vias_column i) m → NetTold s g i first (λ _. d.line + 2) w w' table₁ table' (body_in (sizes_of g) (low_at (get_or table₁ (vias_column i) 0)) (place_of s d)) r
+  pub rest-goes-on : (m : Maybe ℕ) (d : Cursor) → l ≡ Ok (m, d) → d.line ≡ c.line + option_lines (low_at (unwrap_or m 0)) → (w w' table table₁ table' : List ℕ) (r : NetRead) → i < most_nets → table_size ≤ length table
+      → table₁ ≡ set table (vias_column i) (unwrap_or m 0) → NetTold s g i first (λ _. d.line + 2) w w' table₁ table' (body_in (sizes_of g) (low_at (get_or table₁ (vias_column i) 0)) (place_of s d)) r
       → NetTold s g i first (λ n. c.line + 2 + option_lines n.low) w w' table table' (rest_in (sizes_of g) (place_of s c)) r
   rest-goes-on m d e h w w' table table₁ table' r turn room put t =
       go r
       (subst (λ (x : ℕ). NetTold s g i first (λ _. d.line + 2) w w' table₁ table' (body_in (sizes_of g) (low_at x) (place_of s d)) r)
-      (ap (λ (x : List ℕ). get_or x (vias_column i) 0) put ∙ get_or-set_same table (vias_column i) m 0 (omega arith)) t)
+      (ap (λ (x : List ℕ). get_or x (vias_column i) 0) put ∙ get_or-set_same table (vias_column i) (unwrap_or m 0) 0 (omega arith)) t)
     where
-      go : (r : NetRead) → NetTold s g i first (λ _. d.line + 2) w w' table₁ table' (body_in (sizes_of g) (low_at m) (place_of s d)) r
+      go : (r : NetRead) → NetTold s g i first (λ _. d.line + 2) w w' table₁ table' (body_in (sizes_of g) (low_at (unwrap_or m 0)) (place_of s d)) r
           → NetTold s g i first (λ n. c.line + 2 + option_lines n.low) w w' table table' (rest_in (sizes_of g) (place_of s c)) r
       go (Err f) t = rest-is m d e ∙ t
       go (Ok x) t = record {
@@ -119,11 +120,11 @@ module _ (s : List ℕ) (c : Cursor) (g : Shape) (i first : ℕ) (l : LowRead) (
         is = rest-is m d e ∙ t.is;
         after = record {
           place = t.after.place;
-          lines = omega (arith, t.after.lines, h, ap option_lines (body-low (sizes_of g) (low_at m) (place_of s d) t.net (place_of s x.0) t.is));
+          lines = omega (arith, t.after.lines, h, ap option_lines (body-low (sizes_of g) (low_at (unwrap_or m 0)) (place_of s d) t.net (place_of s x.0) t.is));
         };
         count_is = t.count_is;
         counted = t.counted;
         row = t.row;
-        table_long = t.table_long ∙ ap length put ∙ length-set table (vias_column i) m;
-        rows_before = λ k b. t.rows_before k b ∙ ap (λ (x : List ℕ). get_or x k 0) put ∙ get_or-set_other table (vias_column i) k m 0 (λ p. omega arith);
+        table_long = t.table_long ∙ ap length put ∙ length-set table (vias_column i) (unwrap_or m 0);
+        rows_before = λ k b. t.rows_before k b ∙ ap (λ (x : List ℕ). get_or x k 0) put ∙ get_or-set_other table (vias_column i) k (unwrap_or m 0) 0 (λ p. omega arith);
       }

@@ -1,6 +1,7 @@
 -- What the lines of a net, and of all nets, leave in the working numbers and in the net table.
 -- Assumes nothing.
-use Rattle.std.specs.Prelude.{List, ◌++◌, map, ◌≡◌, refl, ℕ, zero, suc, ◌+◌, ◌*◌, ◌≤◌, ◌<◌, length, get_or, Ok, Err, Result as Outcome}
+use Rattle.std.specs.Prelude.{List, ◌++◌, map, ◌≡◌, refl, ℕ, zero, suc, ◌+◌, ◌*◌, ◌≤◌, ◌<◌, length, get_or, Ok, Err, Option as Maybe, Result as Outcome}
+use Rattle.std.specs.Option.{unwrap_or}
 use Rattle.std.proofs.Math.Option.{Option, none, some}
 use Rattle.edges.specs.Reading.{Few}
 use Rattle.layout.specs.Areas.{loads_at, demand_at, flat_at, tiles_at, chosen_at, tiles_of, links_of}
@@ -21,9 +22,9 @@ use Rattle.theory.specs.links.Nets.{NetOk, EachNet}
 use Rattle.theory.specs.links.Stretches.{offset}
 use Rattle.nets.specs.Rows.{RowAt}
 
--- the lowest wanted layer of a net, 0 where it has no line `low`, and the place of the next line
+-- the lowest wanted layer of a net, where it has a line `low`, and the place of the next line
 abbrev pub LowRead : Type 0
-LowRead = Outcome (ℕ × Cursor) Refusal
+LowRead = Outcome (Maybe ℕ × Cursor) Refusal
 
 -- the lines of a net: the place after them, and the entries of its `edges` line
 abbrev pub NetRead : Type 0
@@ -45,11 +46,11 @@ low_at (suc m) = some (suc m)
 
 -- the answer to a line `low`, and where the next line comes
 abbrev pub low_told : List ℕ → LowRead → Result (Option ℕ)
-low_told s (Ok x) = found (low_at x.0) (place_of s x.1)
+low_told s (Ok x) = found (low_at (unwrap_or x.0 0)) (place_of s x.1)
 low_told s (Err r) = refused_by r
 
 abbrev pub low_holds : ℕ → ℕ → LowRead → Type 0
-low_holds size line (Ok x) = After size (line + option_lines (low_at x.0)) x.1
+low_holds size line (Ok x) = After size (line + option_lines (low_at (unwrap_or x.0 0))) x.1
 low_holds size line (Err r) = Unit {0}
 
 -- the `pins` and `edges` lines of a net

@@ -2,6 +2,7 @@
 #![tactic(auto)]
 
 ghost use Rattle.std.specs.Prelude.{◌≡◌, ◌+◌, ◌*◌, ◌<◌, ◌≤◌, length, get_or, set};
+ghost use Rattle.std.specs.Option.{unwrap_or};
 ghost use Rattle.layout.specs.Areas.{tiles_at, chosen_at, tiles_of, links_of};
 ghost use Rattle.layout.specs.Parts.{Outside};
 ghost use Rattle.layout.specs.Shapes.{sizes_of};
@@ -38,17 +39,17 @@ fn net_line(s: &[u8], c: Cursor, turn: usize) -> Result<Cursor, Refusal>
     Ok(d)
 }
 
-// The line `low` of a net in a job of k layers, where it stands: its lowest wanted layer, 0 where it has no such line, and the place of the next line.
-fn low_line(s: &[u8], c: Cursor, k: usize) -> Result<(u32, Cursor), Refusal>
+// The line `low` of a net in a job of k layers, where it stands: its lowest wanted layer, and the place of the next line.
+fn low_line(s: &[u8], c: Cursor, k: usize) -> Result<(Option<u32>, Cursor), Refusal>
     requires { (c.at ≤ length s.now) × (c.line < 1048576) × (k ≤ 8) }
     ensures result_value { low_told s.now result ≡ low_line k (place_of s.now c) }
     ensures low_holds { low_holds (length s.now) c.line result }
 {
     if lines::open_line(s, c, b"low=").is_none() {
-        return Ok((0, c));
+        return Ok((None, c));
     }
     let (n, d) = lines::ranged(s, c, b"low=", 1, k)?;
-    Ok((n as u32, d))
+    Ok((Some(n as u32), d))
 }
 
 // The `pins` line, its pins marked by tile.
@@ -78,11 +79,11 @@ pub struct Row {
 }
 
 // The lowest wanted layer of net i in its row, 0 where it has none.
-fn put_low(table: &mut [u32], i: usize, low: u32)
+fn put_low(table: &mut [u32], i: usize, low: Option<u32>)
     requires { (i < most_nets) × (table_size ≤ length table.old) }
-    ensures { table.new ≡ set table.old (vias_column i) low }
+    ensures { table.new ≡ set table.old (vias_column i) (unwrap_or low 0) }
 {
-    table[Column::Vias.at(i)] = low;
+    table[Column::Vias.at(i)] = low.unwrap_or(0);
 }
 
 // What the `pins` and `edges` lines of a net say in its row: above 16 bits of its entries stand those that it drops.

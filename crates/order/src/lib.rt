@@ -107,7 +107,7 @@ fn net_density(s: &[u8], at: usize, w: &[u32], g: Shape) -> Density
     requires edges_there { EdgesThere s.now g at }
     ensures { (j : Job) (n : Net) → EdgesAt s.now g.w g.h at n → FlatDemands g j w.now → FlatCapacities g j w.now → DensityOf j n.entries result }
 {
-    if s[at] == 10 {
+    if s[at] == b'\n' {
         return Density {
             demand: 0,
             capacity: 0,

@@ -10,9 +10,10 @@ ghost use Rattle.model.specs.Print.{print_line, print_net};
 ghost use Rattle.model.specs.Program.{written};
 ghost use Rattle.model.specs.Text.{decimal, decimals};
 ghost use Rattle.print.specs.Texts.{row_text, nets_text, turns_of, totals_text, lines_text, ldof_text, plan_text, RowInside, Rows};
-ghost use Rattle.put.specs.Wrote.{Wrote};
+ghost use Rattle.put.specs.Wrote.{Wrote, Room};
 
 use layout::Column;
+use put::Writer;
 
 // ---- the nets in placing order
 
@@ -25,52 +26,51 @@ fn turn_of(table: &[u32], k: usize) -> u32
 }
 
 // The nets of n turns.
-fn put_turns(b: &mut [u8], from: usize, table: &[u32], n: usize) -> usize
+fn put_turns(w: &mut Writer<'_>, table: &[u32], n: usize)
     requires n_le_most_nets { (n ≤ most_nets) × (net_columns * n ≤ length table.now) }
-    requires n_in_bounds { from + length (decimals (turns_of table.now n)) ≤ length b.old }
-    ensures { Wrote from (decimals (turns_of table.now n)) b.old b.new result }
+    requires n_in_bounds { Room w.old (decimals (turns_of table.now n)) }
+    ensures { Wrote w.old (decimals (turns_of table.now n)) w.new }
 {
     if n == 0 {
-        return from;
+        return;
     }
-    let mut at = put::number(b, from, turn_of(table, 0) as u64);
+    w.number(turn_of(table, 0) as u64);
     for k in 1..n {
-        at = put::next_number(b, at, turn_of(table, k) as u64);
+        w.next_number(turn_of(table, k) as u64);
     }
-    at
 }
 
 // The line `order`.
-fn put_order(b: &mut [u8], at: usize, table: &[u32], n: usize) -> usize
+fn put_order(w: &mut Writer<'_>, table: &[u32], n: usize)
     requires n_le_most_nets { (n ≤ most_nets) × (net_columns * n ≤ length table.now) }
-    requires n_in_bounds { at + length (print_line "order" (turns_of table.now n)) ≤ length b.old }
-    ensures { Wrote at (print_line "order" (turns_of table.now n)) b.old b.new result }
+    requires n_in_bounds { Room w.old (print_line "order" (turns_of table.now n)) }
+    ensures { Wrote w.old (print_line "order" (turns_of table.now n)) w.new }
 {
-    let first = put::text(b, at, b"order=");
-    let last = put_turns(b, first, table, n);
-    put::byte(b, last, 10)
+    w.text(b"order=");
+    put_turns(w, table, n);
+    w.byte(b'\n')
 }
 
 // ---- one net
 
 // The line `layers`.
-fn put_layers(b: &mut [u8], at: usize, layers: &[u8]) -> usize
-    requires { at + length (print_line "layers" layers.now) ≤ length b.old }
-    ensures { Wrote at (print_line "layers" layers.now) b.old b.new result }
+fn put_layers(w: &mut Writer<'_>, layers: &[u8])
+    requires { Room w.old (print_line "layers" layers.now) }
+    ensures { Wrote w.old (print_line "layers" layers.now) w.new }
 {
-    let list = put::text(b, at, b"layers=");
-    let done = put::bytes(b, list, layers);
-    put::byte(b, done, 10)
+    w.text(b"layers=");
+    w.bytes(layers);
+    w.byte(b'\n')
 }
 
 // The three lines of net i.
-fn put_net(b: &mut [u8], at: usize, i: usize, vias: u32, layers: &[u8]) -> usize
-    requires { at + length (print_net i vias layers.now) ≤ length b.old }
-    ensures { Wrote at (print_net i vias layers.now) b.old b.new result }
+fn put_net(w: &mut Writer<'_>, i: usize, vias: u32, layers: &[u8])
+    requires { Room w.old (print_net i vias layers.now) }
+    ensures { Wrote w.old (print_net i vias layers.now) w.new }
 {
-    let a = put::line(b, at, b"net=", i as u64);
-    let c = put::line(b, a, b"vias=", vias as u64);
-    put_layers(b, c, layers)
+    w.line(b"net=", i as u64);
+    w.line(b"vias=", vias as u64);
+    put_layers(w, layers)
 }
 
 // ---- the nets, as the net table has them
@@ -91,49 +91,46 @@ fn vias_of(table: &[u32], i: usize) -> u32
 }
 
 // Its lines: it has the number i + 1.
-fn put_row(b: &mut [u8], at: usize, i: usize, table: &[u32], answer: &[u8]) -> usize
+fn put_row(w: &mut Writer<'_>, i: usize, table: &[u32], answer: &[u8])
     requires row_inside { RowInside table.now answer.now i }
-    requires i_in_bounds { at + length (row_text table.now answer.now i) ≤ length b.old }
-    ensures { Wrote at (row_text table.now answer.now i) b.old b.new result }
+    requires i_in_bounds { Room w.old (row_text table.now answer.now i) }
+    ensures { Wrote w.old (row_text table.now answer.now i) w.new }
 {
     let first = first_of(table, i) as usize;
     let count = layout::entries_in(table, i);
     let vias = vias_of(table, i);
-    put_net(b, at, i + 1, vias, &answer[first..first + count])
+    put_net(w, i + 1, vias, &answer[first..first + count])
 }
 
 // The lines of all n nets.
-fn put_nets(b: &mut [u8], from: usize, n: usize, table: &[u32], answer: &[u8]) -> usize
+fn put_nets(w: &mut Writer<'_>, n: usize, table: &[u32], answer: &[u8])
     requires rows { Rows n table.now answer.now }
-    requires n_in_bounds { from + length (nets_text table.now answer.now 0 n) ≤ length b.old }
-    ensures { Wrote from (nets_text table.now answer.now 0 n) b.old b.new result }
+    requires n_in_bounds { Room w.old (nets_text table.now answer.now 0 n) }
+    ensures { Wrote w.old (nets_text table.now answer.now 0 n) w.new }
 {
-    let mut at = from;
     for i in 0..n {
-        at = put_row(b, at, i, table, answer);
+        put_row(w, i, table, answer);
     }
-    at
 }
 
 // ---- the whole print
 
-fn put_totals(b: &mut [u8], at: usize, vias: u64, total: u64, most: u64) -> usize
-    requires { at + length (totals_text vias total most) ≤ length b.old }
-    ensures { Wrote at (totals_text vias total most) b.old b.new result }
+fn put_totals(w: &mut Writer<'_>, vias: u64, total: u64, most: u64)
+    requires { Room w.old (totals_text vias total most) }
+    ensures { Wrote w.old (totals_text vias total most) w.new }
 {
-    let a = put::line(b, at, b"total_vias=", vias);
-    let c = put::line(b, a, b"total_overflow=", total);
-    put::line(b, c, b"max_overflow=", most)
+    w.line(b"total_vias=", vias);
+    w.line(b"total_overflow=", total);
+    w.line(b"max_overflow=", most)
 }
 
 // "printed as a last line `ldof`, in jobs that have a `low` line"
-fn put_ldof(b: &mut [u8], at: usize, last: Option<u64>) -> usize
-    requires { at + length (ldof_text last) ≤ length b.old }
-    ensures { Wrote at (ldof_text last) b.old b.new result }
+fn put_ldof(w: &mut Writer<'_>, last: Option<u64>)
+    requires { Room w.old (ldof_text last) }
+    ensures { Wrote w.old (ldof_text last) w.new }
 {
-    match last {
-        None => at,
-        Some(v) => put::line(b, at, b"ldof=", v),
+    if let Some(v) = last {
+        w.line(b"ldof=", v);
     }
 }
 
@@ -147,15 +144,15 @@ pub struct Counts {
     pub last: Option<u64>,
 }
 
-// The lines of every plan, from place 0 on: the net table has a row for each net, and in them the nets in placing order.
-fn put_lines(b: &mut [u8], table: &[u32], answer: &[u8], p: Counts) -> usize
+// The lines of every plan: the net table has a row for each net, and in them the nets in placing order.
+fn put_lines(w: &mut Writer<'_>, table: &[u32], answer: &[u8], p: Counts)
     requires rows { Rows p.nets table.now answer.now }
-    requires most_in_bounds { length (lines_text p.nets table.now answer.now p.vias p.total p.most) ≤ length b.old }
-    ensures { Wrote 0 (lines_text p.nets table.now answer.now p.vias p.total p.most) b.old b.new result }
+    requires most_in_bounds { Room w.old (lines_text p.nets table.now answer.now p.vias p.total p.most) }
+    ensures { Wrote w.old (lines_text p.nets table.now answer.now p.vias p.total p.most) w.new }
 {
-    let a = put_order(b, 0, table, p.nets);
-    let c = put_nets(b, a, p.nets, table, answer);
-    put_totals(b, c, p.vias, p.total, p.most)
+    put_order(w, table, p.nets);
+    put_nets(w, p.nets, table, answer);
+    put_totals(w, p.vias, p.total, p.most)
 }
 
 // The printed plan from place 0 on.
@@ -165,9 +162,10 @@ pub fn put_plan(b: &mut [u8], table: &[u32], answer: &[u8], p: Counts) -> usize
     ensures b_after { b.new ≡ sets b.old 0 (plan_text p.nets table.now answer.now p.vias p.total p.most p.last) }
     ensures value { result ≡ length (plan_text p.nets table.now answer.now p.vias p.total p.most p.last) }
 {
-    let last = p.last;
-    let a = put_lines(b, table, answer, p);
-    put_ldof(b, a, last)
+    let mut w = Writer::new(b);
+    put_lines(&mut w, table, answer, p);
+    put_ldof(&mut w, p.last);
+    w.at
 }
 
 // "or `refused=number,line`"
@@ -176,8 +174,10 @@ pub fn put_refusal(b: &mut [u8], number: usize, line: usize) -> usize
     ensures b_after { b.new ≡ sets b.old 0 (written (refusal number line)) }
     ensures value { result ≡ length (written (refusal number line)) }
 {
-    let first = put::text(b, 0, b"refused=");
-    let second = put::number(b, first, number as u64);
-    let end = put::next_number(b, second, line as u64);
-    put::byte(b, end, 10)
+    let mut w = Writer::new(b);
+    w.text(b"refused=");
+    w.number(number as u64);
+    w.next_number(line as u64);
+    w.byte(b'\n');
+    w.at
 }

@@ -1,7 +1,7 @@
 -- One step of a loop that writes.
 -- Assumes nothing.
 use mathlib.Core.List.{List, [], ◌∷◌}
-use mathlib.Core.Path.{◌≡◌, refl, sym, ap, ◌∙◌}
+use mathlib.Core.Path.{◌≡◌, sym, ap, ◌∙◌}
 use Prim.Native.Nat.{ℕ, ◌+◌, ◌-◌, ◌/◌, ◌%◌, ◌≤◌, ◌<◌}
 use native.Mathlib.Omega.{arith}
 use lib.ListN.{length, drop, get_or, set, length-append}
@@ -9,11 +9,8 @@ use lib.Seq.{sets, drop-length}
 use Rattle.model.specs.Text.{decimal, decimals}
 use Rattle.theory.specs.links.Decimals.{decimal-one, decimal-parts}
 use Rattle.put.specs.Lists.{others, first_more, others-more}
-use Rattle.put.specs.Wrote.{Wrote, Left, sets_last, wrote-long, wrote_then, wrote_as, left-then, left-done, left_as}
-
--- one byte
-pub put_one : (w : List ℕ) (k v m : ℕ) → m ≡ k + 1 → Wrote k (v ∷ []) w (set w k v) m
-put_one w k v m e = record { buffer = refl; next = e }
+use Rattle.put.specs.declared.Writer.{Writer}
+use Rattle.put.specs.Wrote.{Wrote, Left, Room, sets_last, wrote-long, wrote_then, wrote_as, wrote-none, left-then, left-done, left_as}
 
 -- ---- the digits of a number
 
@@ -56,33 +53,33 @@ digit-one w a n h = ap (sets w a) (decimal-one n h)
 
 -- ---- numbers with commas between
 
-pub comma-then : {a m r : ℕ} {text w w' w'' : List ℕ} → Wrote a (44 ∷ []) w w' m → Wrote m text w' w'' r → Wrote a (44 ∷ text) w w'' r
+pub comma-then : {w u v : Writer} {text : List ℕ} → Wrote w (44 ∷ []) u → Wrote u text v → Wrote w (44 ∷ text) v
 comma-then one two = wrote_then one two
 
-pub list-none : (a : ℕ) (xs w : List ℕ) → length xs ≡ 0 → Wrote a (decimals xs) w w a
-list-none a [] w e = record { buffer = refl; next = omega arith }
-list-none a (x ∷ xs) w e = absurd (omega arith)
+pub list-none : (xs : List ℕ) (w : Writer) → length xs ≡ 0 → Wrote w (decimals xs) w
+list-none [] w e = wrote-none w
+list-none (x ∷ xs) w e = absurd (omega arith)
 
 -- the first number, then the others
 module _ (xs : List ℕ) (h : 1 ≤ length xs) where
-  pub first-room : (a : ℕ) (w : List ℕ) → a + length (decimals xs) ≤ length w → a + length (decimal (get_or xs 0 0)) ≤ length w
-  first-room a w k = omega (arith, ap length (first_more xs h), length-append (decimal (get_or xs 0 0)) (others (drop 1 xs)))
+  pub first-room : (w : Writer) → Room w (decimals xs) → Room w (decimal (get_or xs 0 0))
+  first-room w k = omega (arith, ap length (first_more xs h), length-append (decimal (get_or xs 0 0)) (others (drop 1 xs)))
 
-  module _ {a : ℕ} {w w' : List ℕ} {m : ℕ} (one : Wrote a (decimal (get_or xs 0 0)) w w' m) where
-    pub others-room : a + length (decimals xs) ≤ length w → m + length (others (drop 1 xs)) ≤ length w'
+  module _ {w u : Writer} (one : Wrote w (decimal (get_or xs 0 0)) u) where
+    pub others-room : Room w (decimals xs) → Room u (others (drop 1 xs))
     others-room k =
         omega (arith, one.next, wrote-long one, ap length (first_more xs h), length-append (decimal (get_or xs 0 0)) (others (drop 1 xs)))
 
-    pub list-whole : {w'' : List ℕ} {r : ℕ} → Wrote m (others (drop 1 xs)) w' w'' r → Wrote a (decimals xs) w w'' r
+    pub list-whole : {v : Writer} → Wrote u (others (drop 1 xs)) v → Wrote w (decimals xs) v
     list-whole two = wrote_as (wrote_then one two) (sym (first_more xs h))
 
 -- one turn of the others
-module _ {from a : ℕ} {text w w' : List ℕ} (xs : List ℕ) (i : ℕ) (h : i < length xs) (l : Left from text w a (others (drop i xs)) w') where
-  pub turn-room : from + length text ≤ length w → a + length (44 ∷ decimal (get_or xs i 0)) ≤ length w'
+module _ {w u : Writer} {text : List ℕ} (xs : List ℕ) (i : ℕ) (h : i < length xs) (l : Left w text u (others (drop i xs))) where
+  pub turn-room : Room w text → Room u (44 ∷ decimal (get_or xs i 0))
   turn-room k = omega (arith, l.next, l.long, ap length (others-more xs i h), length-append (44 ∷ decimal (get_or xs i 0)) (others (drop (i + 1) xs)))
 
-  pub turn_more : {w'' : List ℕ} {m : ℕ} → Wrote a (44 ∷ decimal (get_or xs i 0)) w' w'' m → Left from text w m (others (drop (i + 1) xs)) w''
+  pub turn_more : {v : Writer} → Wrote u (44 ∷ decimal (get_or xs i 0)) v → Left w text v (others (drop (i + 1) xs))
   turn_more one = left-then {y = others (drop (i + 1) xs)} (left_as (others-more xs i h) l) one
 
-pub others-done : {from a : ℕ} {text w w' : List ℕ} (xs : List ℕ) (i : ℕ) → i ≡ length xs → Left from text w a (others (drop i xs)) w' → Wrote from text w w' a
+pub others-done : {w u : Writer} {text : List ℕ} (xs : List ℕ) (i : ℕ) → i ≡ length xs → Left w text u (others (drop i xs)) → Wrote w text u
 others-done xs i e l = left-done (left_as (ap (λ (k : ℕ). others (drop k xs)) e ∙ ap others (drop-length xs)) l)

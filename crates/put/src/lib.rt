@@ -1,28 +1,48 @@
-// Bytes, numbers and lines written into a lent buffer. Every function writes a text from a place on, and returns the place behind it.
+// Bytes, numbers and lines written into a lent buffer.
 #![tactic(auto)]
 
 ghost use Rattle.std.specs.Prelude.{[], ◌∷◌, ◌≡◌, ◌+◌, ◌*◌, ◌≤◌, ◌<◌, length, get_or};
 ghost use Rattle.std.proofs.lemmas.List.Edits.{sets};
 ghost use Rattle.model.specs.Text.{decimal, decimals};
-ghost use Rattle.put.specs.Wrote.{Wrote, line};
+ghost use Rattle.put.specs.Wrote.{Wrote, Room, line};
 
-// One byte.
-pub fn byte(b: &mut [u8], at: usize, x: u8) -> usize
-    requires { at + 1 ≤ length b.old }
-    ensures { Wrote at (x ∷ []) b.old b.new result }
-{
-    b[at] = x;
-    at + 1
+// A lent buffer, and the place in it where the next text is written.
+#[derive(Drop)]
+pub struct Writer<'a> {
+    pub buf: &'a mut [u8],
+    pub at: usize,
 }
 
-// The bytes of x.
-pub fn text(b: &mut [u8], at: usize, x: &[u8]) -> usize
-    requires { at + length x.now ≤ length b.old }
-    ensures { Wrote at x.now b.old b.new result }
-{
-    let end = at + x.len();
-    b[at..end].copy_from_slice(x);
-    end
+impl<'a> Writer<'a> {
+    // At the start of the buffer.
+    pub fn new(buf: &'a mut [u8]) -> Writer<'a>
+        ensures same { result.buf.ghost_name ≡ buf.entry.ghost_name }
+        ensures bytes { result.buf.now ≡ buf.old }
+        ensures place { result.at ≡ 0 }
+    {
+        Writer { buf, at: 0 }
+    }
+}
+
+impl Writer<'_> {
+    // One byte.
+    pub fn byte(&mut self, x: u8)
+        requires { Room self.old (x ∷ []) }
+        ensures { Wrote self.old (x ∷ []) self.new }
+    {
+        self.buf[self.at] = x;
+        self.at += 1;
+    }
+
+    // The bytes of x.
+    pub fn text(&mut self, x: &[u8])
+        requires { Room self.old x.now }
+        ensures { Wrote self.old x.now self.new }
+    {
+        let end = self.at + x.len();
+        self.buf[self.at..end].copy_from_slice(x);
+        self.at = end;
+    }
 }
 
 // ---- a number in base ten
@@ -60,69 +80,71 @@ fn digits(n: u64) -> usize
     4 + digits_divided(n / 10000)
 }
 
-// The digits of n, the last one first.
-fn digits_at(b: &mut [u8], at: usize, n: u64) -> usize
-    requires { at + length (decimal n) ≤ length b.old }
-    ensures { Wrote at (decimal n) b.old b.new result }
-{
-    let end = at + digits(n);
-    let mut i = end;
-    let mut left = n;
-    // not a `for`: it ends with the number that is divided
-    while 10 <= left {
-        i -= 1;
-        b[i] = 48 + (left % 10) as u8;
-        left = left / 10;
+impl Writer<'_> {
+    // The digits of n, the last one first.
+    fn digits_at(&mut self, n: u64)
+        requires { Room self.old (decimal n) }
+        ensures { Wrote self.old (decimal n) self.new }
+    {
+        let start = self.at;
+        let end = start + digits(n);
+        let mut i = end;
+        let mut left = n;
+        // not a `for`: it ends with the number that is divided
+        while 10 <= left {
+            i -= 1;
+            self.buf[i] = b'0' + (left % 10) as u8;
+            left = left / 10;
+        }
+        self.buf[start] = b'0' + left as u8;
+        self.at = end;
     }
-    b[at] = 48 + left as u8;
-    end
-}
 
-// The digits of n, the first one first.
-pub fn number(b: &mut [u8], at: usize, n: u64) -> usize
-    requires { at + length (decimal n) ≤ length b.old }
-    ensures { Wrote at (decimal n) b.old b.new result }
-{
-    if n < 10 {
-        return byte(b, at, 48 + n as u8);
+    // The digits of n, the first one first.
+    pub fn number(&mut self, n: u64)
+        requires { Room self.old (decimal n) }
+        ensures { Wrote self.old (decimal n) self.new }
+    {
+        if n < 10 {
+            return self.byte(b'0' + n as u8);
+        }
+        self.digits_at(n)
     }
-    digits_at(b, at, n)
-}
 
-// ---- numbers with commas between
+    // ---- numbers with commas between
 
-// One more number: a comma before it.
-pub fn next_number(b: &mut [u8], at: usize, x: u64) -> usize
-    requires { at + length (44 ∷ decimal x) ≤ length b.old }
-    ensures { Wrote at (44 ∷ decimal x) b.old b.new result }
-{
-    let digit = byte(b, at, 44);
-    number(b, digit, x)
-}
-
-// The bytes of xs as numbers.
-pub fn bytes(b: &mut [u8], from: usize, xs: &[u8]) -> usize
-    requires { from + length (decimals xs.now) ≤ length b.old }
-    ensures { Wrote from (decimals xs.now) b.old b.new result }
-{
-    if xs.len() == 0 {
-        return from;
+    // One more number: a comma before it.
+    pub fn next_number(&mut self, x: u64)
+        requires { Room self.old (44 ∷ decimal x) }
+        ensures { Wrote self.old (44 ∷ decimal x) self.new }
+    {
+        self.byte(b',');
+        self.number(x)
     }
-    let mut at = number(b, from, xs[0] as u64);
-    for i in 1..xs.len() {
-        at = next_number(b, at, xs[i] as u64);
+
+    // The bytes of xs as numbers.
+    pub fn bytes(&mut self, xs: &[u8])
+        requires { Room self.old (decimals xs.now) }
+        ensures { Wrote self.old (decimals xs.now) self.new }
+    {
+        if xs.len() == 0 {
+            return;
+        }
+        self.number(xs[0] as u64);
+        for i in 1..xs.len() {
+            self.next_number(xs[i] as u64);
+        }
     }
-    at
-}
 
-// ---- lines, each ended by byte 10
+    // ---- lines, each ended by byte 10
 
-// A line with one number; the key comes with its `=`.
-pub fn line(b: &mut [u8], at: usize, key: &[u8], n: u64) -> usize
-    requires { at + length (line key.now (decimal n)) ≤ length b.old }
-    ensures { Wrote at (line key.now (decimal n)) b.old b.new result }
-{
-    let value = text(b, at, key);
-    let behind = number(b, value, n);
-    byte(b, behind, 10)
+    // A line with one number; the key comes with its `=`.
+    pub fn line(&mut self, key: &[u8], n: u64)
+        requires { Room self.old (line key.now (decimal n)) }
+        ensures { Wrote self.old (line key.now (decimal n)) self.new }
+    {
+        self.text(key);
+        self.number(n);
+        self.byte(b'\n')
+    }
 }

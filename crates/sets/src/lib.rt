@@ -58,8 +58,8 @@ fn fill_row(spans: &mut [u32; 256], row: [u8; 16], r: usize)
     requires { (r < 16) × (length spans.old ≡ 256) }
     ensures { Rowed row r 16 spans.old spans.new }
 {
-    for i in 0..16 {
-        spans[16 * r + i] = row[i] as u32;
+    for (i, &vias) in row.iter().enumerate() {
+        spans[16 * r + i] = vias as u32;
     }
 }
 

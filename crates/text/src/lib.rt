@@ -240,10 +240,7 @@ pub fn brief(s: &[u8], at: usize, end: u8) -> Option<Numeral>
     requires { (at + 6 ≤ length s.now) × (end < 48) }
     ensures { Brief s.now at end result }
 {
-    match short(s, at, end) {
-        Some(n) => Some(n),
-        None => longer(s, at, end),
-    }
+    short(s, at, end).or_else(|| longer(s, at, end))
 }
 
 // The number at `at`, the byte `end` behind it, and the place after that.
@@ -344,10 +341,7 @@ fn long_pin(s: &[u8], at: usize) -> Option<Entry>
 pub fn pin_at(s: &[u8], at: usize) -> Option<Entry>
     ensures { result ≡ pin_entry_at s.now at }
 {
-    match short_pin(s, at) {
-        Some(e) => Some(e),
-        None => long_pin(s, at),
-    }
+    short_pin(s, at).or_else(|| long_pin(s, at))
 }
 
 // An edge and the byte behind it, where x and y have one or two digits. None says nothing.
@@ -374,10 +368,7 @@ pub fn long_edge(s: &[u8], at: usize) -> Option<Entry>
 pub fn edge_at(s: &[u8], at: usize) -> Option<Entry>
     ensures { result ≡ edge_entry_at s.now at }
 {
-    match short_edge(s, at) {
-        Some(e) => Some(e),
-        None => long_edge(s, at),
-    }
+    short_edge(s, at).or_else(|| long_edge(s, at))
 }
 
 impl Fault {

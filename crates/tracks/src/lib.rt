@@ -122,10 +122,7 @@ pub fn close_layers(w: &mut [u32], g: Shape)
 fn full_of(load: u32, cap: u32) -> u32
     ensures { result ≡ full_of load cap }
 {
-    if cap <= load {
-        return 1;
-    }
-    0
+    u32::from(cap <= load)
 }
 
 // One more net on a layer, 1 to K, of an edge. Where the layer was full, the edge has less overflow left.

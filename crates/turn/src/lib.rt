@@ -86,9 +86,9 @@ fn put_answer(w: &[u32], g: Shape, out: &mut [u8])
 {
     let list = layout::list_at(g);
     let chosen = layout::chosen_at(g);
-    for i in 0..out.len() {
+    for (i, byte) in out.iter_mut().enumerate() {
         let edge = w[list + i] as usize;
-        out[i] = w[chosen + edge] as u8;
+        *byte = w[chosen + edge] as u8;
     }
 }
 

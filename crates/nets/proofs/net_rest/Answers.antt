@@ -5,6 +5,7 @@ use Prim.Native.Nat.{◌+◌}
 use lib.ListN.{length, length-set}
 use Rattle.theory.specs.links.JobText.{option_lines}
 use Rattle.layout.specs.Table.{vias_column}
+use Rattle.std.specs.Option.{unwrap_or}
 use Rattle.std.proofs.lemmas.Result.{err_from_is_err_and}
 use Rattle.lines.specs.Told.{After}
 use Rattle.nets.specs.Nets.{low_at}
@@ -14,13 +15,13 @@ use Rattle.nets.proofs.net_rest.Goals.{After-put_low, In_ok-low}
 
 -- the place behind the line, or before the next where it is not there
 module _ (c : In_ok-low) where
-  behind : After (length c.args.s.now) (c.args.c.line + option_lines (low_at c.in_ok-low.low)) c.in_ok-low.d
+  behind : After (length c.args.s.now) (c.args.c.line + option_lines (low_at (unwrap_or c.in_ok-low.low 0))) c.in_ok-low.d
   behind = low-holds c.low_line.result (length c.args.s.now) c.args.c.line c.in_ok-low.low c.in_ok-low.d c.in_ok-low.was c.low_line.ensures.low_holds
 
 -- its row has the number of the line, and the table is as long as before
 module _ (c : After-put_low) where
   put-long : length c.put_low.new.table ≡ length c.args.table.now
-  put-long = ap length c.put_low.ensures ∙ length-set c.args.table.now (vias_column c.args.row.i) c.in_ok-low.low
+  put-long = ap length c.put_low.ensures ∙ length-set c.args.table.now (vias_column c.args.row.i) (unwrap_or c.in_ok-low.low 0)
 
 pub returns-in_err-low : goal.returns-in_err-low
 returns-in_err-low c =

@@ -7,20 +7,16 @@ use Rattle.print.proofs.put_nets.Goals as goal
 
 pub loop-i-init : goal.loop-i-init
 loop-i-init c =
-    (omega arith, nets-start c.args.from c.args.table.now c.args.answer.now c.args.b.now c.args.n)
+    (omega arith, nets-start c.args.table.now c.args.answer.now c.args.w.now c.args.n)
 
-pub put_row-at-requires : goal.put_row-at-requires
-put_row-at-requires c =
+pub put_row-requires : goal.put_row-requires
+put_row-requires c =
     let h : c.loop-i.i < c.args.n = omega arith in record { row_inside = c.requires.rows c.loop-i.i h; i_in_bounds = net-room c.args.table.now c.args.answer.now c.loop-i.i c.args.n h c.loop-i.invariant.1 c.requires.n_in_bounds }
 
 pub loop-i-preserved : goal.loop-i-preserved
 loop-i-preserved c =
     let h : c.loop-i.i < c.args.n = omega arith in
-    (omega arith, net-more c.args.table.now c.args.answer.now c.loop-i.i c.args.n h c.loop-i.invariant.1 c.put_row-at.ensures)
-
-pub shape_of-b : goal.shape_of-b
-shape_of-b c =
-    c.loop-i.invariant.1.long
+    (omega arith, net-more c.args.table.now c.args.answer.now c.loop-i.i c.args.n h c.loop-i.invariant.1 c.put_row.ensures)
 
 pub returns : goal.returns
 returns c =

@@ -6,7 +6,7 @@ use Rattle.put.specs.Wrote.{Left}
 use Rattle.print.proofs.put_nets.Given as goal
 
 abbrev pub invariant-loop-i : goal.invariant-loop-i
-invariant-loop-i l = (l.i ≤ l.n) × Left l.from (nets_text l.table l.answer 0 l.n) l.initial.b l.at (nets_text l.table l.answer l.i (l.n - l.i)) l.b
+invariant-loop-i l = (l.i ≤ l.n) × Left l.initial.w (nets_text l.table l.answer 0 l.n) l.w (nets_text l.table l.answer l.i (l.n - l.i))
 
 abbrev pub decreases-loop-i : goal.decreases-loop-i
 decreases-loop-i l = l.n - l.i

@@ -59,9 +59,9 @@ pub overflow_cast-edge : goal.overflow_cast-edge
 overflow_cast-edge c =
     omega (arith, edge_in (goal.at.overflow_cast-edge c).At-loop-i (omega arith), c.args.g.shaped.e_most)
 
-pub overflow_add-out : goal.overflow_add-out
-overflow_add-out c =
-    omega (arith, edge_in (goal.at.overflow_add-out c).At-loop-i (omega arith), c.args.g.shaped.e_most, c.chosen_at-chosen.ensures.upper_bound)
+pub overflow_add-byte : goal.overflow_add-byte
+overflow_add-byte c =
+    omega (arith, edge_in (goal.at.overflow_add-byte c).At-loop-i (omega arith), c.args.g.shaped.e_most, c.chosen_at-chosen.ensures.upper_bound)
 
 pub offset_bounds-w-chosen : goal.offset_bounds-w-chosen
 offset_bounds-w-chosen c =
@@ -71,9 +71,9 @@ pub bounds-w-chosen : goal.bounds-w-chosen
 bounds-w-chosen c =
     layer-in (goal.at.bounds-w-chosen c).At-loop-i (omega arith)
 
-pub overflow_cast-out : goal.overflow_cast-out
-overflow_cast-out c =
-    omega (arith, layer-byte (goal.at.overflow_cast-out c).At-loop-i (omega arith))
+pub overflow_cast-byte : goal.overflow_cast-byte
+overflow_cast-byte c =
+    omega (arith, layer-byte (goal.at.overflow_cast-byte c).At-loop-i (omega arith))
 
 pub bounds-out-i : goal.bounds-out-i
 bounds-out-i c =

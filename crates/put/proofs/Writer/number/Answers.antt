@@ -5,7 +5,7 @@ use native.Mathlib.Omega.{arith}
 use Rattle.theory.specs.links.Decimals.{decimal-one}
 use Rattle.put.specs.Wrote.{wrote_as}
 use Rattle.put.proofs.Steps.{one-long}
-use Rattle.put.proofs.number.Goals as goal
+use Rattle.put.proofs.Writer.number.Goals as goal
 
 pub byte-requires : goal.byte-requires
 byte-requires c =

@@ -5,10 +5,10 @@ use Prim.Native.Nat.{◌+◌, ◌≤◌}
 use lib.ListN.{length}
 use lib.Seq.{sets}
 use Rattle.model.specs.Text.{decimal}
-use Rattle.put.proofs.digits_at.Given as goal
+use Rattle.put.proofs.Writer.digits_at.Given as goal
 
 abbrev pub invariant-loop-left : goal.invariant-loop-left
-invariant-loop-left l = (length l.b ≡ length l.initial.b) × (l.i ≡ l.at + length (decimal l.left)) × (l.i ≤ l.end) × (sets l.initial.b l.at (decimal l.n) ≡ sets l.b l.at (decimal l.left))
+invariant-loop-left l = (length l.self.buf.now ≡ length l.initial.self.buf.now) × (l.i ≡ l.start + length (decimal l.left)) × (l.i ≤ l.end) × (sets l.initial.self.buf.now l.start (decimal l.n) ≡ sets l.self.buf.now l.start (decimal l.left)) × (l.self.buf.ghost_name ≡ l.initial.self.buf.ghost_name)
 
 abbrev pub decreases-loop-left : goal.decreases-loop-left
 decreases-loop-left l = l.left

@@ -2,7 +2,7 @@
 -- Assumes nothing.
 use Rattle.put.proofs.Steps.{comma-then}
 use Rattle.std.proofs.Common.{rules}
-use Rattle.put.proofs.next_number.Goals as goal
+use Rattle.put.proofs.Writer.next_number.Goals as goal
 
 pub returns : goal.returns
 returns c =
