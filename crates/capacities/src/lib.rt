@@ -241,8 +241,8 @@ fn layer_lines(
     ensures list_in { list_in (length s.now) (c.line + 2) result }
     ensures w_len_unchanged { length w.new ≡ length w.old }
 {
-    let eastward = layout::runs(g.dirs, Heading::East, layer);
-    let northward = layout::runs(g.dirs, Heading::North, layer);
+    let eastward = layout::runs(g.dirs, Heading::East.number(), layer);
+    let northward = layout::runs(g.dirs, Heading::North.number(), layer);
     let east = Column {
         first: layer,
         k: g.k,

@@ -69,7 +69,7 @@ pub fn read_dirs(s: &[u8], c: Cursor, k: usize) -> Result<(Option<Dirs>, Cursor)
     ensures result_value { dirs_told k s.now result ≡ dirs_line k (place_of s.now c) }
     ensures dirs_hold { dirs_hold (length s.now) c.line k result }
 {
-    let Some(d) = lines::open_line(s, c, b"dirs=") else {
+    let Ok(d) = lines::open_line(s, c, b"dirs=") else {
         return Ok((None, c));
     };
     let line = d.line;

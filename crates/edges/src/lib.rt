@@ -270,18 +270,11 @@ fn joined_line(
     ensures joined_read { (ps : List Pin) (w₀ : List ℕ) → 1 ≤ length ps → Reading g stamp ps [] parts w₀ w.old → JoinedRead g stamp s.now c ps w₀ w.new result }
     ensures w_len_unchanged { length w.new ≡ length w.old }
 {
-    let d = lines::expect_line(s, c, b"edges=")?;
+    let d = match lines::open_line(s, c, b"edges=") {
+        Ok(place) => place,
+        Err(place) => return Err(Refusal::Line(Fault::Form, place.line)),
+    };
     list(s, d, w, g, stamp, parts)
-}
-
-// The third part of an entry whose edge has this heading.
-fn third_of(heading: Heading) -> usize
-    ensures { result ≡ heading_number heading }
-{
-    match heading {
-        Heading::East => 0,
-        Heading::North => 1,
-    }
 }
 
 // Whether the edges of all entries from `from` on have this heading. The line was found right and is read again, so none is malformed. Few jobs have a
@@ -289,7 +282,7 @@ fn third_of(heading: Heading) -> usize
 fn one_way(s: &[u8], from: usize, heading: Heading) -> bool
     ensures { (ts : List Triple) (rest : List ℕ) → edges_of (drop from s.now) ≡ some (ts, rest) → result ≡ all (goes (heading_number heading)) ts }
 {
-    let way = third_of(heading);
+    let way = heading.number() as usize;
     let mut i = from;
     // not an iterator: that of crate `known` stands above this one, and reads what is known to be right
     loop {

@@ -118,7 +118,7 @@ fn way_limit(w: &[u32], g: Shape, heading: Heading, first: usize, n: usize) -> u
 {
     let dirs = g.dirs;
     let most = most_of(w, layout::demand_at(g) + first, n);
-    share(most, layout::layers_in(dirs, heading, g.k))
+    share(most, layout::layers_in(dirs, heading.number(), g.k))
 }
 
 // The limits of the edges that go east, which are those before the border, and of those that go north.

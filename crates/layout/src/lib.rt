@@ -38,18 +38,26 @@ impl Stack {
     }
 }
 
-// Whether a layer, counted from 0, runs the way of the edges with this heading; without directions every layer does.
-pub fn runs(d: Option<Dirs>, heading: Heading, layer: usize) -> bool
+impl Heading {
+    // The number that the job text's directions have for it, 0 for east and 1 for north.
+    pub fn number(self) -> u32
+        ensures { result ≡ heading_number self }
+    {
+        match self {
+            Heading::East => 0,
+            Heading::North => 1,
+        }
+    }
+}
+
+// Whether a layer, counted from 0, runs the way of this number, that of a heading; without directions every layer does.
+pub fn runs(d: Option<Dirs>, way: u32, layer: usize) -> bool
     requires { layer < most_layers }
-    ensures { (k : ℕ) → layer < k → result ≡ runs_in (dirs_of k d) (heading_number heading) (layer + 1) }
+    ensures { (k : ℕ) → layer < k → result ≡ runs_in (dirs_of k d) way (layer + 1) }
 {
-    let Some(dirs) = d else {
-        return true;
-    };
-    let north = (dirs.north >> (layer as u32)) % 2;
-    match heading {
-        Heading::East => north == 0,
-        Heading::North => north == 1,
+    match d {
+        None => true,
+        Some(dirs) => (dirs.north >> (layer as u32)) % 2 == way,
     }
 }
 
@@ -69,15 +77,15 @@ pub fn has_layer(d: Option<Dirs>, heading: Heading, k: usize) -> bool
     }
 }
 
-// How many of k layers run the way of the edges with this heading.
-pub fn layers_in(d: Option<Dirs>, heading: Heading, k: usize) -> usize
+// How many of k layers run the way of this number, that of a heading.
+pub fn layers_in(d: Option<Dirs>, way: u32, k: usize) -> usize
     requires { k ≤ most_layers }
-    ensures value { result ≡ length (keep (runs_in (dirs_of k d) (heading_number heading)) (up_from 1 k)) }
+    ensures value { result ≡ length (keep (runs_in (dirs_of k d) way) (up_from 1 k)) }
     ensures upper_bound { result ≤ k }
 {
     let mut n = 0;
     for l in 0..k {
-        n += usize::from(runs(d, heading, l));
+        n += usize::from(runs(d, way, l));
     }
     n
 }

@@ -11,7 +11,7 @@ use Rattle.text.specs.declared.Cursor.{Cursor}
 use Rattle.text.specs.declared.Fault.TheVariants.{Form}
 use Rattle.text.specs.declared.Refusal.{Refusal}
 use Rattle.text.specs.declared.Refusal.TheVariants.{Line}
-use Rattle.lines.specs.Reads.{keyed, behind_of, opened_of, expected_of}
+use Rattle.lines.specs.Reads.{keyed, behind_of, opened_of, opening_of, expected_of}
 use Rattle.lines.specs.Told.{After}
 
 not-true : ◌≡◌ {A = Bool} false true → ⊥
@@ -68,6 +68,22 @@ module _ (s : List ℕ) (c : Cursor) (key : List ℕ) where
   key-other e F =
       let k : starts_with key (drop c.at s) ≡ false = none-where (keyed s c key) (behind_of c (length key)) e in
       rw (behind-is key (drop c.at s), k, add-one)
+
+  -- by what opening the line gives
+  pub opening-there : (d : Cursor) → opening_of s c key ≡ Ok d → opened_of s c key ≡ Some d
+  opening-there d e = ok-where (opened_of s c key) (behind_of c (length key)) d e
+
+  pub opening-other : (x : Cursor) → opening_of s c key ≡ Err x → (opened_of s c key ≡ None) × (x ≡ behind_of c (length key))
+  opening-other x e = err-where (opened_of s c key) (behind_of c (length key)) x e
+
+  -- what that makes of a line that may not be left out
+  pub expected-opening : (d : Cursor) → opening_of s c key ≡ Ok d → expected_of s c key ≡ Ok d
+  expected-opening d e = ap (λ (o : Maybe Cursor). ok_or o (Line Form (c.line + 1))) (opening-there d e)
+
+  pub expected-lacking : (x : Cursor) → opening_of s c key ≡ Err x → expected_of s c key ≡ Err (Line Form x.line)
+  expected-lacking x e =
+      let p = opening-other x e in
+      rw p.1 (ap (λ (o : Maybe Cursor). ok_or o (Line Form (c.line + 1))) p.0)
 
   -- a line that may not be left out
   pub expected-there : (d : Cursor) → expected_of s c key ≡ Ok d → opened_of s c key ≡ Some d

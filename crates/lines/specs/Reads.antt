@@ -20,6 +20,10 @@ behind_of c n = record { at = c.at + n; line = c.line + 1 }
 abbrev pub opened_of : List ℕ → Cursor → List ℕ → Option Cursor
 opened_of s c key = cond (keyed s c key) (Some (behind_of c (length key))) None
 
+-- the same, and where the key is not there that place as an error: it names the line that was asked for
+abbrev pub opening_of : List ℕ → Cursor → List ℕ → Result Cursor Cursor
+opening_of s c key = ok_or (opened_of s c key) (behind_of c (length key))
+
 -- the same, refused where the key is not there
 abbrev pub expected_of : List ℕ → Cursor → List ℕ → Result Cursor Refusal
 expected_of s c key = ok_or (opened_of s c key) (Line Form (c.line + 1))

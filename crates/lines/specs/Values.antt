@@ -4,7 +4,7 @@ use Rattle.std.specs.Prelude.{◌≡◌, refl, Bool, true, false, not, cond, Lis
 use Rattle.std.specs.Option.{ok_or}
 use Rattle.std.proofs.Common.{sym, ap, ◌∙◌, arith}
 use Rattle.model.specs.Text.{cut_line, behind}
-use Rattle.model.specs.Read.{Result, Reading, next, value_in}
+use Rattle.model.specs.Read.{Result, Reading, refused, next, value_in}
 use Rattle.text.specs.Refusals.{place_of}
 use Rattle.text.specs.declared.Cursor.{Cursor}
 use Rattle.scan.specs.Keys.{OneLine, after_key, key-law}
@@ -12,8 +12,8 @@ use Rattle.lines.specs.Keyed.{one_line, line_by}
 use Rattle.text.specs.declared.Fault.TheVariants.{Form}
 use Rattle.text.specs.declared.Refusal.{Refusal}
 use Rattle.text.specs.declared.Refusal.TheVariants.{Line}
-use Rattle.lines.specs.Opens.{key-there, key-other}
-use Rattle.lines.specs.Reads.{opened_of, expected_of}
+use Rattle.lines.specs.Opens.{key-there, key-other, opening-there, expected-lacking}
+use Rattle.lines.specs.Reads.{opened_of, opening_of, expected_of}
 use Rattle.lines.specs.Told.{line_told, refused_by}
 
 one_line_lem : (key : List ℕ) → one_line key ≡ true → OneLine key
@@ -37,7 +37,16 @@ pub line-there : (s : List ℕ) (c : Cursor) (key : List ℕ) → one_line key �
     → line_by key (place_of s c) ≡ value_in 2 d.line (cut_line (drop d.at s)) []
 line-there s c key one d e = sym (expected-told s c key one) ∙ ap (λ (o : Maybe Cursor). line_told s (ok_or o (Line Form (c.line + 1)))) e
 
--- whatever is done with the value of a line
+-- whatever is done with the value of a line, by what opening it gave
+module _ (s : List ℕ) (c : Cursor) (key : List ℕ) (one : one_line key ≡ true) (o : Outcome Cursor Cursor) (e : o ≡ opening_of s c key) {A : Type 0} (f : List ℕ → Reading A) where
+  pub opened-reads : (d : Cursor) → o ≡ Ok d → next (line_by key (place_of s c)) f ≡ next (value_in 2 d.line (cut_line (drop d.at s)) []) f
+  opened-reads d h = ap (λ (r : Result (List ℕ)). next r f) (line-there s c key one d (opening-there s c key d (sym e ∙ h)))
+
+  pub opened-lacks : (x : Cursor) → o ≡ Err x → next (line_by key (place_of s c)) f ≡ refused 2 x.line
+  opened-lacks x h =
+      ap (λ (r : Result (List ℕ)). next r f) (sym (expected-told s c key one) ∙ ap (line_told s) (expected-lacking s c key x (sym e ∙ h)))
+
+-- whatever is done with the value of a line, by what is told of it
 module _ (s : List ℕ) (c : Cursor) (key : List ℕ) (r : Outcome Cursor Refusal) (told : line_told s r ≡ line_by key (place_of s c)) {A : Type 0} (f : List ℕ → Reading A) where
   pub reads-there : (d : Cursor) → r ≡ Ok d → next (line_by key (place_of s c)) f ≡ next (value_in 2 d.line (cut_line (drop d.at s)) []) f
   reads-there d e = ap (λ (x : Result (List ℕ)). next x f) (sym told ∙ ap (line_told s) e)

@@ -5,7 +5,7 @@ ghost use Rattle.std.specs.Prelude.{◌≡◌, true, ◌+◌, ◌<◌, ◌≤◌
 ghost use Rattle.text.specs.Refusals.{place_of};
 ghost use Rattle.lines.specs.Keyed.{one_line, line_by, number_line_by, ranged_by};
 ghost use Rattle.lines.specs.Told.{line_told, field_told, field_in};
-ghost use Rattle.lines.specs.Reads.{keyed, behind_of, opened_of, expected_of};
+ghost use Rattle.lines.specs.Reads.{keyed, behind_of, opening_of, expected_of};
 
 use text::{Cursor, Fault, Refusal};
 
@@ -63,17 +63,16 @@ pub fn moved<'a>(r: Reader<'a>, n: usize) -> Reader<'a>
     }
 }
 
-// The line at a place of the text: the place behind its key, one line further, or nothing where the key is not there. Every line of the text is opened
-// here, whatever follows its key; where the key is not there, whoever asks refuses the line or goes on without it.
-pub fn open_line<'a>(s: &'a [u8], c: Cursor, key: &'a [u8]) -> Option<Cursor>
+// The line at a place of the text: the place behind its key, one line further; where the key is not there, the same place as an error. Every line of the
+// text is opened here, whatever follows its key; where the key is not there, whoever asks refuses the line, which that place names, or goes on without it.
+pub fn open_line<'a>(s: &'a [u8], c: Cursor, key: &'a [u8]) -> Result<Cursor, Cursor>
     requires { (c.at ≤ length s.now) × (c.line < 1048576) }
-    ensures { result ≡ opened_of s.now c key.now }
+    ensures { result ≡ opening_of s.now c key.now }
 {
     let r = reader_at(s, c);
-    if !key_here(r, key) {
-        return None;
-    }
-    Some(moved(r, key.len()).place)
+    let there = key_here(r, key);
+    let place = moved(r, key.len()).place;
+    if there { Ok(place) } else { Err(place) }
 }
 
 // The same, where the line may not be left out: without its key it is refused.
@@ -82,7 +81,10 @@ pub fn expect_line<'a>(s: &'a [u8], c: Cursor, key: &'a [u8]) -> Result<Cursor, 
     ensures result_value { line_told s.now result ≡ line_by key.now (place_of s.now c) }
     ensures opened { result ≡ expected_of s.now c key.now }
 {
-    open_line(s, c, key).ok_or(Refusal::Line(Fault::Form, c.line + 1))
+    match open_line(s, c, key) {
+        Ok(place) => Ok(place),
+        Err(place) => Err(Refusal::Line(Fault::Form, place.line)),
+    }
 }
 
 // ---- lines with one number

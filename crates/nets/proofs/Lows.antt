@@ -8,14 +8,14 @@ use Prim.Native.Nat.{ℕ, zero, suc, ◌+◌, ◌≤◌, ◌<◌}
 use native.Mathlib.Omega.{arith}
 use lib.ListN.{length, get_or, set, length-set}
 use lib.Seq.{get_or-set_same, get_or-set_other}
-use Rattle.std.specs.Prelude.{Some, None, Ok, Err, is_some, Option as Maybe, Result as Outcome}
+use Rattle.std.specs.Prelude.{Some, None, Ok, Err, is_err, Option as Maybe, Result as Outcome}
 use Rattle.std.specs.Option.{unwrap_or}
 use Rattle.layout.specs.Shapes.{sizes_of}
 use Rattle.layout.specs.Table.{vias_column, table_size}
 use Rattle.layout.specs.declared.shape.Shape.{Shape}
 use Rattle.lines.specs.Keyed.{key_bytes, ranged_by, ranged-is}
-use Rattle.lines.specs.Opens.{key-there, key-other}
-use Rattle.lines.specs.Reads.{opened_of}
+use Rattle.lines.specs.Opens.{key-there, key-other, opening-there, opening-other}
+use Rattle.lines.specs.Reads.{opening_of}
 use Rattle.lines.specs.Told.{field_told, refused_by, After}
 use Rattle.model.specs.Job.{Net}
 use Rattle.model.specs.Limits.{most_nets}
@@ -40,29 +40,29 @@ one_line : (n : ℕ) → 1 ≤ n → option_lines (low_at n) ≡ 1
 one_line zero h = absurd (omega arith)
 one_line (suc n) h = refl
 
--- whether there is a value
-module _ {A : Type 0} where
-  is-none : (o : Maybe A) → is_some o ≡ false → o ≡ None
-  is-none None h = refl
-  is-none (Some x) h = cc
+-- which of the two it is
+module _ {A B : Type 0} where
+  is-ok : (o : Outcome A B) → is_err o ≡ false → (x : A) × (o ≡ Ok x)
+  is-ok (Ok x) h = (x, refl)
+  is-ok (Err y) h = cc
 
-  is-some : (o : Maybe A) → is_some o ≡ true → (x : A) × (o ≡ Some x)
-  is-some None h = cc
-  is-some (Some x) h = (x, refl)
+  is-err : (o : Outcome A B) → is_err o ≡ true → (y : B) × (o ≡ Err y)
+  is-err (Ok x) h = cc
+  is-err (Err y) h = (y, refl)
 
-module _ (s : List ℕ) (c : Cursor) (o : Maybe Cursor) (e : o ≡ opened_of s c key) (k : ℕ) where
+module _ (s : List ℕ) (c : Cursor) (o : Outcome Cursor Cursor) (e : o ≡ opening_of s c key) (k : ℕ) where
   -- the key is not there: nothing is read
-  pub low-none : is_some o ≡ false → low_told s (Ok (None, c)) ≡ low_line k (place_of s c)
+  pub low-none : is_err o ≡ true → low_told s (Ok (None, c)) ≡ low_line k (place_of s c)
   unfolding low_line
-  low-none t = sym (key-other s c key (sym e ∙ is-none o t) (λ l u. if_there u (ranged "low" 1 k) (place_of s c)))
+  low-none t = let b = is-err o t in sym (key-other s c key (opening-other s c key b.0 (sym e ∙ b.1)).0 (λ l u. if_there u (ranged "low" 1 k) (place_of s c)))
 
   -- it is there: the line has one number
-  module _ (t : is_some o ≡ true) (f : Outcome (ℕ × Cursor) Refusal) (told : field_told s f ≡ ranged_by (key_bytes "low") 1 k (place_of s c)) where
+  module _ (t : is_err o ≡ false) (f : Outcome (ℕ × Cursor) Refusal) (told : field_told s f ≡ ranged_by (key_bytes "low") 1 k (place_of s c)) where
     low_is : low_line k (place_of s c) ≡ next (field_told s f) (λ n. give (some n))
     unfolding low_line
     low_is =
-        let b = is-some o t in
-        key-there s c key b.0 (sym e ∙ b.1) (λ l u. if_there u (ranged "low" 1 k) (place_of s c))
+        let b = is-ok o t in
+        key-there s c key b.0 (opening-there s c key b.0 (sym e ∙ b.1)) (λ l u. if_there u (ranged "low" 1 k) (place_of s c))
         ∙ ap (λ (r : Result ℕ). next r (λ n. give (some n))) (ranged-is "low" 1 k (place_of s c) ∙ sym told)
 
     pub low-refused : (r : Refusal) → f ≡ Err r → low_told s (Err r) ≡ low_line k (place_of s c)

@@ -45,7 +45,7 @@ fn low_line(s: &[u8], c: Cursor, k: usize) -> Result<(Option<u32>, Cursor), Refu
     ensures result_value { low_told s.now result ≡ low_line k (place_of s.now c) }
     ensures low_holds { low_holds (length s.now) c.line result }
 {
-    if lines::open_line(s, c, b"low=").is_none() {
+    if lines::open_line(s, c, b"low=").is_err() {
         return Ok((None, c));
     }
     let (n, d) = lines::ranged(s, c, b"low=", 1, k)?;

@@ -134,6 +134,9 @@ pub fn pins_line(
     ensures pins_in { pins_in (length s.now) (c.at + 5) (c.line + 1) result }
     ensures a_len_unchanged { length a.new ≡ length a.old }
 {
-    let d = lines::expect_line(s, c, b"pins=")?;
+    let d = match lines::open_line(s, c, b"pins=") {
+        Ok(place) => place,
+        Err(place) => return Err(Refusal::Line(Fault::Form, place.line)),
+    };
     entries(s, d, a, g, stamp)
 }

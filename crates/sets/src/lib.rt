@@ -64,10 +64,10 @@ fn fill_row(spans: &mut [u32; 256], row: [u8; 16], r: usize)
 }
 
 // The chart by mask: it has the vias of every set of layers.
-#[derive(Drop)]
+#[derive(Clone, Copy)]
 pub struct Chart {
-    spans: [u32; 256],
-    ghost charted: { Charted span_of spans },
+    pub spans: [u32; 256],
+    pub ghost charted: { Charted span_of spans },
 }
 
 impl Chart {

@@ -92,7 +92,7 @@ fn close_edge(w: &mut [u32], g: Shape, edge: usize, heading: Heading)
     let at = layout::loads_at(g) + layout::edge_at(g, edge);
     for l in 0..g.k {
         let nets = w[at + l];
-        w[at + l] = shut(layout::runs(dirs, heading, l), nets);
+        w[at + l] = shut(layout::runs(dirs, heading.number(), l), nets);
     }
 }
 

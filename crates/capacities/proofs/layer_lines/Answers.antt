@@ -1,7 +1,7 @@
 -- `layer_lines` meets its contract: the line `east`, and behind it the line `north`, each stored in its part of the layer's column (`Layers.antt`).
 -- Assumes nothing.
-use mathlib.Core.Path.{◌≡◌, refl, ◌∙◌}
-use Prim.Native.Nat.{◌+◌}
+use mathlib.Core.Path.{◌≡◌, refl, ap, ◌∙◌}
+use Prim.Native.Nat.{ℕ, ◌+◌}
 use lib.ListN.{length}
 use Rattle.std.proofs.lemmas.Result.{err_from_is_err_and}
 use Rattle.model.specs.Job.{runs}
@@ -11,16 +11,18 @@ use Rattle.capacities.specs.Told.{list_told}
 use Rattle.capacities.proofs.Layers.{east-part, east-room, north-room, layer-refused, layer-both}
 use native.Mathlib.Omega.{arith}
 use Rattle.capacities.proofs.layer_lines.Goals as goal
-use Rattle.capacities.proofs.layer_lines.Goals.{In_ok-d}
+use Rattle.capacities.proofs.layer_lines.Goals.{In_ok-d, After-judged_line}
+
+-- both directions are judged
+module _ (d : After-judged_line) where
+  eastward : d.runs-eastward.result ≡ runs (dirs_of d.args.g.k d.args.g.dirs) 0 (d.args.layer + 1)
+  eastward = d.runs-eastward.ensures d.args.g.k d.requires.layer_lt_k.0 ∙ ap (λ (way : ℕ). runs (dirs_of d.args.g.k d.args.g.dirs) way (d.args.layer + 1)) d.number.ensures
+
+  northward : d.runs-northward.result ≡ runs (dirs_of d.args.g.k d.args.g.dirs) 1 (d.args.layer + 1)
+  northward = d.runs-northward.ensures d.args.g.k d.requires.layer_lt_k.0 ∙ ap (λ (way : ℕ). runs (dirs_of d.args.g.k d.args.g.dirs) way (d.args.layer + 1)) d.number-2.ensures
 
 -- the line `east` is read
 module _ (d : In_ok-d) where
-  eastward : d.runs-eastward.result ≡ runs (dirs_of d.args.g.k d.args.g.dirs) 0 (d.args.layer + 1)
-  eastward = d.runs-eastward.ensures d.args.g.k d.requires.layer_lt_k.0
-
-  northward : d.runs-northward.result ≡ runs (dirs_of d.args.g.k d.args.g.dirs) 1 (d.args.layer + 1)
-  northward = d.runs-northward.ensures d.args.g.k d.requires.layer_lt_k.0
-
   behind : After (length d.args.s.now) (d.args.c.line + 1) d.in_ok-d.d
   behind = d.in_ok-d.ensures.list_in
 
@@ -57,9 +59,9 @@ returns-in_err-d-clause-result_after c =
     let a = c.args in
     let p = err_from_is_err_and c.from_residual.result c.from_residual.ensures.1 in
     rw (p.1, p.2) (layer-refused a.s.now a.c a.g c.args.g.shaped a.w.now c.judged_line.new.w a.layer c.judged_line.result c.runs-eastward.result c.runs-northward.result
-    (c.runs-eastward.ensures a.g.k c.requires.layer_lt_k.0) (c.runs-northward.ensures a.g.k c.requires.layer_lt_k.0) c.judged_line.ensures.result_after c.in_err-d.field-0.0 c.in_err-d.was)
+    (eastward (goal.at.returns-in_err-d-clause-result_after c).After-judged_line) (northward (goal.at.returns-in_err-d-clause-result_after c).After-judged_line) c.judged_line.ensures.result_after c.in_err-d.field-0.0 c.in_err-d.was)
 
 pub returns : goal.returns
 returns c =
     let a = c.args in
-    let k : a.c.line + 2 ≡ c.in_ok-d.d.line + 1 = omega (arith, (behind (goal.at.returns c).In_ok-d).lines) in record { result_after = layer-both a.s.now a.c a.g c.args.g.shaped a.w.now c.judged_line.new.w a.layer c.judged_line.result c.runs-eastward.result c.runs-northward.result (eastward (goal.at.returns c).In_ok-d) (northward (goal.at.returns c).In_ok-d) c.judged_line.ensures.result_after c.in_ok-d.d (list_told a.s.now c.judged_line-2.new.w c.judged_line-2.result) c.in_ok-d.was c.judged_line-2.ensures.result_after; list_in = rw k c.judged_line-2.ensures.list_in; w_len_unchanged = c.judged_line-2.ensures.w_len_unchanged ∙ c.judged_line.ensures.w_len_unchanged }
+    let k : a.c.line + 2 ≡ c.in_ok-d.d.line + 1 = omega (arith, (behind (goal.at.returns c).In_ok-d).lines) in record { result_after = layer-both a.s.now a.c a.g c.args.g.shaped a.w.now c.judged_line.new.w a.layer c.judged_line.result c.runs-eastward.result c.runs-northward.result (eastward (goal.at.returns c).After-judged_line) (northward (goal.at.returns c).After-judged_line) c.judged_line.ensures.result_after c.in_ok-d.d (list_told a.s.now c.judged_line-2.new.w c.judged_line-2.result) c.in_ok-d.was c.judged_line-2.ensures.result_after; list_in = rw k c.judged_line-2.ensures.list_in; w_len_unchanged = c.judged_line-2.ensures.w_len_unchanged ∙ c.judged_line.ensures.w_len_unchanged }

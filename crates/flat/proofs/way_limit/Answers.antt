@@ -7,7 +7,7 @@ use lib.ListN.{get_or}
 use Rattle.model.specs.Limits.{most_nets}
 use Rattle.model.specs.Overflow.{ceil_div}
 use Rattle.flat.specs.FlatPlan.{most_at}
-use Rattle.flat.specs.Limited.{most-few}
+use Rattle.flat.specs.Limited.{layers_for, most-few}
 use Rattle.flat.proofs.way_limit.Goals as goal
 use Rattle.flat.proofs.way_limit.Goals.{After-most_of-most}
 
@@ -40,4 +40,4 @@ share-requires c =
 pub returns : goal.returns
 returns c =
     let a = c.args in
-    c.share.ensures ∙ ap₂ ceil_div (c.most_of-most.ensures ∙ ap (λ (q : ℕ). most_at (q + a.first) a.n a.w.now) c.demand_at.ensures.value) c.layers_in.ensures.value
+    c.share.ensures ∙ ap₂ ceil_div (c.most_of-most.ensures ∙ ap (λ (q : ℕ). most_at (q + a.first) a.n a.w.now) c.demand_at.ensures.value) (c.layers_in.ensures.value ∙ ap (layers_for a.g) c.number.ensures)

@@ -1,12 +1,12 @@
 -- `runs` meets its contract: the bit of the layer, by division.
 -- Assumes nothing.
-use Rattle.layout.specs.Dirs.{given-runs}
+use Rattle.layout.specs.Dirs.{any_runs, given-runs}
 use Rattle.layout.proofs.runs.Goals as goal
 
-pub returns-in-East : goal.returns-in-East
-returns-in-East c k h =
-    rw c.in-East.is (given-runs c.args.d c.in-Some.dirs c.in-Some.is k 0 c.args.layer h)
+pub returns-in-None : goal.returns-in-None
+returns-in-None c k h =
+    let a = c.args in any_runs a.d c.in-None.is k a.way a.layer
 
-pub returns-in-North : goal.returns-in-North
-returns-in-North c k h =
-    rw c.in-North.is (given-runs c.args.d c.in-Some.dirs c.in-Some.is k 1 c.args.layer h)
+pub returns-in-Some : goal.returns-in-Some
+returns-in-Some c k h =
+    let a = c.args in given-runs a.d c.in-Some.dirs c.in-Some.is k a.way a.layer h

@@ -1,18 +1,19 @@
--- `expect_line` meets its contract.
+-- `expect_line` meets its contract: what opening the line gave is what is expected of it, with its place or its refusal.
 -- Assumes nothing.
-use mathlib.Core.Path.{ap, ◌∙◌}
-use Rattle.std.specs.Prelude.{Option}
-use Rattle.std.specs.Option.{ok_or}
-use Rattle.text.specs.declared.Cursor.{Cursor}
-use Rattle.text.specs.declared.Fault.TheVariants.{Form}
-use Rattle.text.specs.declared.Refusal.TheVariants.{Line}
-use Prim.Native.Nat.{◌+◌}
+use mathlib.Core.Path.{sym, ap, ◌∙◌}
+use Rattle.lines.specs.Opens.{expected-opening, expected-lacking}
 use Rattle.lines.specs.Told.{line_told}
 use Rattle.lines.specs.Values.{expected-told}
 use Rattle.lines.proofs.expect_line.Goals as goal
 
-pub returns : goal.returns
-returns c =
+pub returns-in-Ok-clause-result_value : goal.returns-in-Ok-clause-result_value
+returns-in-Ok-clause-result_value c =
     let a = c.args in
-    let e = c.ok_or.ensures.value ∙ ap (λ (o : Option Cursor). ok_or o (Line Form (a.c.line + 1))) c.open_line.ensures in
-    record { result_value = ap (line_told a.s.now) e ∙ expected-told a.s.now a.c a.key.now c.requires.2; opened = e }
+    let e = expected-opening a.s.now a.c a.key.now c.in-Ok.place (sym c.open_line.ensures ∙ c.in-Ok.is) in
+    ap (line_told a.s.now) (sym e) ∙ expected-told a.s.now a.c a.key.now c.requires.2
+
+pub returns-in-Err-clause-result_value : goal.returns-in-Err-clause-result_value
+returns-in-Err-clause-result_value c =
+    let a = c.args in
+    let e = expected-lacking a.s.now a.c a.key.now c.in-Err.place (sym c.open_line.ensures ∙ c.in-Err.is) in
+    ap (line_told a.s.now) (sym e) ∙ expected-told a.s.now a.c a.key.now c.requires.2

@@ -1,11 +1,12 @@
 -- `close_edge` meets its contract. The loop's invariant: the nets of the first l layers are as they should be, and the rest is as it was.
 -- Assumes nothing.
-use mathlib.Core.Path.{◌≡◌, ap₂, ◌∙◌}
+use mathlib.Core.Path.{◌≡◌, ap, ap₂, ◌∙◌}
 use mathlib.Core.Bool.{Bool, cond}
 use Prim.Native.Nat.{ℕ, ◌+◌, ◌≤◌, ◌<◌}
 use native.Mathlib.Omega.{arith}
 use lib.ListN.{length}
-use Rattle.layout.specs.Dirs.{heading_number}
+use Rattle.layout.specs.Dirs.{dirs_of, heading_number}
+use Rattle.model.specs.Job.{runs as runs_in}
 use Rattle.layout.specs.Fill.{filled_none, filled_next}
 use Rattle.net.specs.SoFar.{closed_load}
 use Rattle.tracks.specs.Shut.{row_at, shut_from, shut_row}
@@ -54,7 +55,7 @@ loop-l-preserved c =
     let kept = c.loop-l.invariant.1.outside.high (at (goal.at.loop-l-preserved c).At-loop-l + c.loop-l.l) (omega arith) in (
       omega arith,
       filled_next (at (goal.at.loop-l-preserved c).At-loop-l) c.loop-l.l (shut_from a.g.k a.g.dirs (heading_number a.heading) a.w.now (at (goal.at.loop-l-preserved c).At-loop-l)) a.w.now c.loop-l.w c.shut.result c.loop-l.invariant.1 (omega (arith, room (goal.at.loop-l-preserved c).At-loop-l))
-          (c.shut.ensures ∙ ap₂ (λ (b : Bool) (n : ℕ). cond b n closed_load) (c.runs.ensures a.g.k here) kept),
+          (c.shut.ensures ∙ ap₂ (λ (b : Bool) (n : ℕ). cond b n closed_load) (c.runs.ensures a.g.k here ∙ ap (λ (way : ℕ). runs_in (dirs_of a.g.k a.g.dirs) way (c.loop-l.l + 1)) c.number.ensures) kept),
     )
 
 pub shape_of-w : goal.shape_of-w
