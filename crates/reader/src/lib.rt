@@ -80,7 +80,9 @@ fn clear_counts(w: &mut [u32], g: Shape)
     layout::clear_part(w, layout::tiles_at(g), layout::chosen_at(g));
 }
 
-// The head of the text s, and the working numbers made ready for its nets; they may hold anything before. `order` is the length of the lent order list.
+// The head of the text s, and the working numbers made ready for its nets; they may hold anything before. `order` is the length of the lent order list. Never put
+// into its caller: compiled code would hold the head's numbers through the loops over the nets (docs/DECISIONS.md).
+#[inline(never)]
 pub fn open_head(s: &[u8], w: &mut [u32], order: usize) -> Result<(Head, Cursor), Refusal>
     ensures head_told { HeadTold s.now (length w.old) order w.new result }
     ensures w_len_unchanged { length w.new ≡ length w.old }
