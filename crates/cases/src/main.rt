@@ -147,7 +147,7 @@ fn case<I: Read, O: Write>(
     Ok(true)
 }
 
-// A proved loop has to end, so it counts the texts, down from more than there are.
+// Answers each text in turn.
 fn run<I: Read, O: Write>(
     from: &mut I,
     to: &mut O,
@@ -157,6 +157,7 @@ fn run<I: Read, O: Write>(
 ) -> io::Result<()>
     requires { table_size ≤ length table.old }
 {
+    // not an iterator: a text may end early or fail; a proved loop has to end, so it counts the texts, down from more than there are
     let mut left: usize = 1000000;
     while left > 0 && case(from, to, t, w, table)? {
         left -= 1;

@@ -341,7 +341,7 @@ fn pin_costs(w: &[u32], at: usize, pins: u32, chart: &Chart) -> [u32; 8]
     meet(&a, &p)
 }
 
-// A tile with k branches, one or more, on eight layers.
+// A tile with k branches, one or more, on eight layers. For speed it stands apart from fewer layers: the numbers of its loops are known before the program runs.
 fn eight_costs(w: &[u32], o: usize, first: usize, k: usize, pins: u32, chart: &Chart) -> [u32; 8]
     requires le_k { (1 ≤ k) × (k ≤ 3) }
     requires layer_mask { LayerMask 8 pins }
